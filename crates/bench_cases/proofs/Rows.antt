@@ -1,0 +1,43 @@
+-- Every row of the bench table has its due answer, by computing the definitions. Assumes nothing.
+use mathlib.Core.List.{List, [], _∷_, map, List·Memᴰ, List·Memᴰ·not-nil, List·Memᴰ·cases-cons}
+use mathlib.Core.Logic.{⊎-elim}
+use mathlib.Core.Path.{_≡_, refl, ap, _∙_, sym}
+use Rattle.certificate.specs.Octets.{bitOf, _also_}
+use Rattle.certificate.specs.Loops.{sumTo, everyOf, everyFrom, firstOfThese, findFrom, turns, from}
+use Rattle.certificate.specs.Checks.{need, orElse, firstOf, firstFrom, marked, opened}
+use Rattle.certificate.specs.Layout.{turnsStart, signalsStart, gridStart, gridAt, productOf, arrivalsStart, entriesStart, endAt}
+use Rattle.certificate.specs.Records.{headerOk, headerFault, linkOk, linkFault, pairBelow, turnAscends, shareTotal, turnOk, turnFault, signalOk, signalFault, cutBefore, cutOk, cutFault, countOk, gridFault, rangeOk, rangeFault, arrivalFault, entryAscends, entryOk, entryFault, endFault}
+use Rattle.certificate.specs.Reading.{linksFault, turnsFault, signalsFault, gridsFault, arrivalsFault, entriesFault, readingOf}
+use Rattle.network.specs.Flow.{leastTo, sent, passedIn, gross, next}
+use Rattle.network.specs.Conditions.{pullSum, pullFault, signalPullsFault, pullsFault, roomOk, roomFault, roomsFault, screeningOf}
+use Rattle.network.specs.Image.{beside, lowCorner, highCorner}
+use Rattle.grid.specs.Intervals.{upperEdge, intervalAt}
+use Rattle.grid.specs.Cells.{numberOf, prefixOf, intervalIn, cellAt}
+use Rattle.grid.specs.Successors.{imageLow, imageHigh, meets, isSuccessor}
+use Rattle.judging.specs.Lookup.{entryFor, isListed}
+use Rattle.judging.specs.Judging.{isSafe, isGoal, isRanked, standingFault, follows, isLower, successorFault, countAfter, lookFault, cellTurn, boxTurn, entryTurn, judgingFrom}
+use Rattle.judging.specs.Verdict.{verdictOf}
+use Rattle.controller.specs.Query.{isProper, lookupFault}
+use Rattle.bench_cases.specs.Table.{Row, Question, Answer, answer, rows, AllMet}
+
+given : Row → Answer
+given r = answer (r .asks)
+
+due : Row → Answer
+due r = r .due
+
+computed : map given rows ≡ map due rows
+unfolding given due rows answer bitOf _also_ sumTo everyOf everyFrom firstOfThese findFrom turns from need orElse firstOf firstFrom marked opened turnsStart signalsStart gridStart gridAt productOf arrivalsStart entriesStart endAt headerOk headerFault linkOk linkFault pairBelow turnAscends shareTotal turnOk turnFault signalOk signalFault cutBefore cutOk cutFault countOk gridFault rangeOk rangeFault arrivalFault entryAscends entryOk entryFault endFault linksFault turnsFault signalsFault gridsFault arrivalsFault entriesFault readingOf leastTo sent passedIn gross next pullSum pullFault signalPullsFault pullsFault roomOk roomFault roomsFault screeningOf beside lowCorner highCorner upperEdge intervalAt numberOf prefixOf intervalIn cellAt imageLow imageHigh meets isSuccessor entryFor isListed isSafe isGoal isRanked standingFault follows isLower successorFault countAfter lookFault cellTurn boxTurn entryTurn judgingFrom verdictOf isProper lookupFault
+computed = refl
+
+each : (l : List Row) {r : Row} → map given l ≡ map due l → List·Memᴰ r l → given r ≡ due r
+each [] e m = absurd (List·Memᴰ·not-nil m)
+each (x ∷ l) {r} e m =
+    ⊎-elim
+    (λ (h : r ≡ x). let here : given x ≡ due x = cc in rw h here)
+    (λ t. each l (cc) t)
+    (List·Memᴰ·cases-cons m)
+
+pub all-met : AllMet
+unfolding given due
+all-met r m = each rows computed m

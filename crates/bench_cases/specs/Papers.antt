@@ -1,0 +1,86 @@
+-- The certificates of the bench cases, record by record.
+use Prim.Native.Nat.{ℕ}
+use mathlib.Core.List.{List, [], _∷_, _++_}
+use lib.ListN.{replicate}
+
+-- paper L of document 01 with cap 10, flow 6 and goal 5 on its one link, cuts 5 and 8; its entries and its two numbers that the cases change are given
+abbrev pub paperL : ℕ → ℕ → ℕ → List ℕ → List ℕ
+paperL entries safe high records =
+    (0x48 ∷ 0x44 ∷ 0x01 ∷ 0x00 ∷ 0x01 ∷ 0x01 ∷ 0x01 ∷ 0x00 ∷ entries ∷ [])
+    ++ (0x4C ∷ 0x4B ∷ 0x00 ∷ 0x01 ∷ 0x00 ∷ 0x0A ∷ 0x00 ∷ 0x06 ∷ 0x00 ∷ safe ∷ 0x00 ∷ 0x05 ∷ [])
+    ++ (0x53 ∷ 0x47 ∷ 0x01 ∷ [])
+    ++ (0x47 ∷ 0x52 ∷ 0x03 ∷ 0x00 ∷ 0x05 ∷ 0x00 ∷ 0x08 ∷ [])
+    ++ (0x41 ∷ 0x52 ∷ 0x00 ∷ 0x00 ∷ 0x00 ∷ high ∷ [])
+    ++ records
+    ++ (0x5A ∷ 0x5A ∷ [])
+
+-- an entry of paper L: mode, signal and next mode are 0
+abbrev pub entryOf : ℕ → ℕ → List ℕ
+entryOf cell rank = 0x45 ∷ 0x4E ∷ 0x00 ∷ cell ∷ 0x00 ∷ 0x00 ∷ 0x00 ∷ 0x00 ∷ rank ∷ []
+
+abbrev pub paperOne : List ℕ
+paperOne = paperL 3 10 2 (entryOf 0 0 ++ entryOf 1 1 ++ entryOf 2 2)
+
+-- P2: arrivals high 3
+abbrev pub paperTwo : List ℕ
+paperTwo = paperL 3 10 3 (entryOf 0 0 ++ entryOf 1 1 ++ entryOf 2 2)
+
+-- P3: rank of entry 1 set to 0
+abbrev pub paperThree : List ℕ
+paperThree = paperL 3 10 2 (entryOf 0 0 ++ entryOf 1 0 ++ entryOf 2 2)
+
+-- P4: without its second entry, HD saying 2
+abbrev pub paperFour : List ℕ
+paperFour = paperL 2 10 2 (entryOf 0 0 ++ entryOf 2 2)
+
+-- P5: safe 9
+abbrev pub paperFive : List ℕ
+paperFive = paperL 3 9 2 (entryOf 0 0 ++ entryOf 1 1 ++ entryOf 2 2)
+
+-- a link of cap 40 and flow 10 from junction tail to junction head, safe 40, goal 40
+abbrev pub link40 : ℕ → ℕ → List ℕ
+link40 tail head = 0x4C ∷ 0x4B ∷ tail ∷ head ∷ 0 ∷ 40 ∷ 0 ∷ 10 ∷ 0 ∷ 40 ∷ 0 ∷ 40 ∷ []
+
+abbrev pub turnOf : ℕ → ℕ → ℕ → ℕ → List ℕ
+turnOf from to share pull = 0x54 ∷ 0x4E ∷ from ∷ to ∷ share ∷ 0 ∷ pull ∷ []
+
+-- one interval for the whole link
+abbrev pub whole : List ℕ
+whole = 0x47 ∷ 0x52 ∷ 1 ∷ []
+
+-- no arrivals on n links
+abbrev pub noArrivals : ℕ → List ℕ
+noArrivals n = 0x41 ∷ 0x52 ∷ replicate n 0
+
+-- the one entry of a certificate with one cell: rank 0, since safe and goal are cap; then the end
+abbrev pub oneEntry : List ℕ
+oneEntry = (0x45 ∷ 0x4E ∷ 0 ∷ 0 ∷ 0 ∷ 0 ∷ 0 ∷ 0 ∷ 0 ∷ []) ++ (0x5A ∷ 0x5A ∷ [])
+
+-- P6, P8: link 0 green, a turn to red link 1, of the given share and pull
+abbrev pub twoLinks : ℕ → ℕ → List ℕ
+twoLinks share pull =
+    (0x48 ∷ 0x44 ∷ 2 ∷ 1 ∷ 1 ∷ 1 ∷ 1 ∷ 0 ∷ 1 ∷ []) ++ link40 0 1 ++ link40 1 2 ++ turnOf 0 1 share pull
+    ++ (0x53 ∷ 0x47 ∷ 0b01 ∷ []) ++ whole ++ whole ++ noArrivals 8 ++ oneEntry
+
+-- P7: one red link of cap 10, arrivals of 2
+abbrev pub redLink : List ℕ
+redLink =
+    (0x48 ∷ 0x44 ∷ 1 ∷ 0 ∷ 1 ∷ 1 ∷ 1 ∷ 0 ∷ 1 ∷ [])
+    ++ (0x4C ∷ 0x4B ∷ 0 ∷ 1 ∷ 0 ∷ 10 ∷ 0 ∷ 10 ∷ 0 ∷ 10 ∷ 0 ∷ 10 ∷ [])
+    ++ (0x53 ∷ 0x47 ∷ 0b0 ∷ []) ++ whole ++ (0x41 ∷ 0x52 ∷ 0 ∷ 2 ∷ 0 ∷ 2 ∷ []) ++ oneEntry
+
+-- P9: links 0 and 1 green, each with a turn of share 100 to link 2, of the given pulls
+abbrev pub twoIn : ℕ → ℕ → List ℕ
+twoIn first second =
+    (0x48 ∷ 0x44 ∷ 3 ∷ 2 ∷ 1 ∷ 1 ∷ 1 ∷ 0 ∷ 1 ∷ []) ++ link40 0 1 ++ link40 0 1 ++ link40 1 2
+    ++ turnOf 0 2 100 first ++ turnOf 1 2 100 second
+    ++ (0x53 ∷ 0x47 ∷ 0b011 ∷ []) ++ whole ++ whole ++ whole ++ noArrivals 12 ++ oneEntry
+
+-- P11: link 0 green, turns to red links 1 and 2. Cell 9 of 18 takes 10 to 11 of link 0, 20 to 21 of link 1 and 20 to 40 of link 2
+abbrev pub fork : List ℕ
+fork =
+    (0x48 ∷ 0x44 ∷ 3 ∷ 2 ∷ 1 ∷ 1 ∷ 1 ∷ 0 ∷ 1 ∷ []) ++ link40 0 1 ++ link40 1 2 ++ link40 1 3
+    ++ turnOf 0 1 50 34 ++ turnOf 0 2 50 34
+    ++ (0x53 ∷ 0x47 ∷ 0b001 ∷ [])
+    ++ (0x47 ∷ 0x52 ∷ 3 ∷ 0 ∷ 10 ∷ 0 ∷ 11 ∷ []) ++ (0x47 ∷ 0x52 ∷ 3 ∷ 0 ∷ 20 ∷ 0 ∷ 21 ∷ []) ++ (0x47 ∷ 0x52 ∷ 2 ∷ 0 ∷ 20 ∷ [])
+    ++ noArrivals 12 ++ oneEntry

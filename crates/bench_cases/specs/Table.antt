@@ -1,0 +1,95 @@
+-- Bench cases P1 to P11 as rows of one table: what is asked, and what is due.
+use Prim.Native.Nat.{ℕ, _+_, _*_}
+use mathlib.Core.List.{List, [], _∷_, List·Memᴰ}
+use mathlib.Core.Path.{_≡_}
+use mathlib.Core.Bool.{cond}
+use lib.ListN.{getD}
+use lib.Dec.{eqb}
+use Rattle.certificate.specs.declared.Report.{Report}
+use Rattle.certificate.specs.Checks.{result, refusal, fine}
+use Rattle.network.specs.Network.{networkOf, limitOf}
+use Rattle.network.specs.Flow.{next}
+use Rattle.network.specs.Conditions.{screeningOf}
+use Rattle.grid.specs.Successors.{imageLow, imageHigh}
+use Rattle.judging.specs.Verdict.{verdictOf}
+use Rattle.controller.specs.Query.{cellAsked, lookupFault}
+use Rattle.bench_cases.specs.Papers.{paperOne, paperTwo, paperThree, paperFour, paperFive, twoLinks, redLink, twoIn, fork}
+
+-- what a row asks of a certificate
+pub data Question : Type 0 where
+  -- its verdict
+  verdict : List ℕ → Question
+  -- its tests before 12
+  screening : List ℕ → Question
+  -- the next queue of a link under signal 0: the scale, the queues and the arrivals over it, the link
+  nextQueue : List ℕ → ℕ → List ℕ → List ℕ → ℕ → Question
+  -- the ends of a link's image under signal 0 and arrival box 0: the cell, the link
+  image : List ℕ → ℕ → ℕ → Question
+  -- a query in mode 0: the scale, the queues
+  query : List ℕ → ℕ → List ℕ → Question
+
+-- what is due
+pub data Answer : Type 0 where
+  report : Report → Answer
+  -- a next queue, over 10,000 times the scale
+  queue : ℕ → Answer
+  -- the ends of an image, in ten thousandths
+  ends : ℕ → ℕ → Answer
+  -- the queues' cell
+  cell : ℕ → Answer
+
+-- the cell of a query that is not refused, else its refusal
+abbrev pub cellOrRefusal : Report → ℕ → Answer
+cellOrRefusal r c = cond (eqb (r .number) 0) (cell c) (report r)
+
+-- the definitions' answer
+unfoldable pub answer : Question → Answer
+answer (verdict s) = report (verdictOf s)
+answer (screening s) = report (screeningOf s)
+answer (nextQueue s scale queues arrivals l) =
+    queue (next (networkOf s) (limitOf s 0) scale (λ k. getD queues k 0) (λ k. getD arrivals k 0) l)
+answer (image s c l) = ends (imageLow s 0 0 c l) (imageHigh s 0 0 c l)
+answer (query s scale queues) = cellOrRefusal (lookupFault s 0 queues scale) (cellAsked s queues scale)
+
+pub record Row : Type 0 where
+  pub asks : Question
+  pub due : Answer
+
+abbrev pub row : Question → Answer → Row
+row q a = record { asks = q; due = a }
+
+unfoldable pub rows : List Row
+rows =
+    -- P1 L: accepted, 4
+    row (verdict paperOne) (report (result 0 0 0 4))
+    -- P2 15, entry 1, cell 1, count 3
+    ∷ row (verdict paperTwo) (report (result 15 1 1 3))
+    -- P3 13, entry 1, count 1
+    ∷ row (verdict paperThree) (report (result 13 1 0 1))
+    -- P4 14, entry 1, cell 1, count 3
+    ∷ row (verdict paperFour) (report (result 14 1 1 3))
+    -- P5 12, entry 2, count 2
+    ∷ row (verdict paperFive) (report (result 12 2 0 2))
+    -- P6 next 3.2 and 22.244
+    ∷ row (nextQueue (twoLinks 33 34) 1 (10 ∷ 20 ∷ []) (0 ∷ 0 ∷ []) 0) (queue 32000)
+    ∷ row (nextQueue (twoLinks 33 34) 1 (10 ∷ 20 ∷ []) (0 ∷ 0 ∷ []) 1) (queue 222440)
+    -- P7 next 10, from 9.5 and 2 as 19 and 4 over scale 2
+    ∷ row (nextQueue redLink 2 (19 ∷ []) (4 ∷ []) 0) (queue (20000 * 10))
+    -- P8 pull 34 holds, 33 gives 11
+    ∷ row (screening (twoLinks 33 34)) (report fine)
+    ∷ row (screening (twoLinks 33 33)) (report (refusal 11 0))
+    -- P9 pulls 50 and 50 hold, 51 and 50 give 10
+    ∷ row (screening (twoIn 50 50)) (report fine)
+    ∷ row (screening (twoIn 51 50)) (report (result 10 0 2 0))
+    -- P10 over scale 2: queue 9 is cell 0, 10 cell 1, 20 cell 2, 21 gives 16
+    ∷ row (query paperOne 2 (9 ∷ [])) (cell 0)
+    ∷ row (query paperOne 2 (10 ∷ [])) (cell 1)
+    ∷ row (query paperOne 2 (20 ∷ [])) (cell 2)
+    ∷ row (query paperOne 2 (21 ∷ [])) (report (refusal 16 0))
+    -- P11 link 1's image is 20 to 24.23
+    ∷ row (image fork 9 1) (ends 200000 242300)
+    ∷ []
+
+-- the theorem about all rows: every row's question is answered as due (proved in proofs/Rows.antt)
+abbrev pub AllMet : Type 0
+AllMet = (r : Row) → List·Memᴰ r rows → answer (r .asks) ≡ r .due

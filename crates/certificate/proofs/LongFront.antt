@@ -1,0 +1,157 @@
+-- The records HD, LK, TN and SG are tested alike in two byte strings that agree up to the greatest length. Assumes nothing.
+use Prim.Native.Nat.{ℕ, zero, suc, _+_, _≤_, _<_}
+use mathlib.Core.List.{List}
+use mathlib.Core.Bool.{Bool, true}
+use mathlib.Core.Path.{_≡_, refl}
+use native.Mathlib.Omega.{arith}
+use borrow.Author.Tests.{leb-true, ltb-true}
+use lib.Dec.{ltb, eqb}
+use Rattle.certificate.specs.Octets.{byteAt, _also_}
+use Rattle.certificate.specs.Layout.{maxLinks, maxTurns, maxSignals, maxBoxes, maxEntries, linksOf, turnsOf, signalsOf, modesOf, boxesOf, entriesOf, tailOf, headOf, capOf, flowOf, safeOf, goalOf, turnSize, turnsStart, turnAt, fromOf, toOf, shareOf, pullOf, signalsStart, greenByteOf, gridStart}
+use Rattle.certificate.specs.Records.{headerOk, headerFault, linkOk, linkFault, turnAscends, shareTotal, turnOk, turnFault, signalOk, signalFault}
+use Rattle.certificate.proofs.Tests.{also-both, need-both, or-both}
+use Rattle.certificate.proofs.Loops.{sum-same}
+use Rattle.certificate.proofs.Agreement.{also-same, Agree, byte-same, u16-same, record-same}
+
+-- what a header that passes says of where the other records stand
+pub record Counts (s : List ℕ) : Type 0 where
+  pub links : linksOf s ≤ maxLinks
+  pub turns : turnsOf s ≤ maxTurns
+  pub signals : signalsOf s ≤ maxSignals
+  pub boxes : boxesOf s ≤ maxBoxes
+  pub entries : entriesOf s ≤ maxEntries
+
+pub counts : (s : List ℕ) → headerFault s .number ≡ 0 → Counts s
+unfolding headerFault headerOk
+counts s z =
+    let ok = need-both _ _ _ (λ e. omega arith) (or-both _ _ z .1) .0 in
+    let a = also-both _ _ ok in
+    let b = also-both _ _ (also-both _ _ (a .0) .0) in
+    let c = also-both _ _ (also-both _ _ (also-both _ _ (also-both _ _ (b .0) .0) .0) .0) in
+    let d = also-both _ _ (also-both _ _ (c .0) .0) in
+    record {
+      links = leb-true _ _ (also-both _ _ (d .0) .1);
+      turns = leb-true _ _ (d .1);
+      signals = leb-true _ _ (c .1);
+      boxes = leb-true _ _ (b .1);
+      entries = leb-true _ _ (a .1);
+    }
+
+-- the links that turn k names exist
+abbrev exist : List ℕ → ℕ → Bool
+exist s k = ltb (fromOf s k) (linksOf s) also ltb (toOf s k) (linksOf s)
+
+module _ {s t : List ℕ} (A : Agree s t) where
+  -- the counts of the header
+  pub links-same : linksOf s ≡ linksOf t
+  links-same = byte-same A refl (omega arith)
+
+  pub turns-same : turnsOf s ≡ turnsOf t
+  turns-same = byte-same A refl (omega arith)
+
+  pub signals-same : signalsOf s ≡ signalsOf t
+  signals-same = byte-same A refl (omega arith)
+
+  pub modes-same : modesOf s ≡ modesOf t
+  modes-same = byte-same A refl (omega arith)
+
+  pub boxes-same : boxesOf s ≡ boxesOf t
+  boxes-same = byte-same A refl (omega arith)
+
+  pub entries-same : entriesOf s ≡ entriesOf t
+  entries-same = u16-same A refl (omega arith)
+
+  pub header-same : headerFault s ≡ headerFault t
+  unfolding headerFault headerOk
+  header-same =
+      record-same A _ _ _ _ refl (omega arith) (omega arith)
+      (cc (links-same, turns-same, signals-same, modes-same, boxes-same, entries-same))
+
+  module _ (C : Counts s) where
+    pub link-same : (l : ℕ) → l < linksOf s → linkFault s l ≡ linkFault t l
+    unfolding linkFault linkOk
+    link-same l lt =
+        let m : linksOf s ≤ maxLinks = C .links in
+        let tail : tailOf s l ≡ tailOf t l = byte-same A refl (omega arith) in
+        let head : headOf s l ≡ headOf t l = byte-same A refl (omega arith) in
+        let cap : capOf s l ≡ capOf t l = u16-same A refl (omega arith) in
+        let flow : flowOf s l ≡ flowOf t l = u16-same A refl (omega arith) in
+        let safe : safeOf s l ≡ safeOf t l = u16-same A refl (omega arith) in
+        let goal : goalOf s l ≡ goalOf t l = u16-same A refl (omega arith) in
+        record-same A _ _ _ _ refl (omega arith) (omega arith) (cc)
+
+    -- where the turns start, and at most where
+    turns-start : turnsStart s ≡ turnsStart t
+    unfolding turnsStart
+    turns-start = rw links-same
+
+    turns-most : turnsStart s ≤ 105
+    unfolding turnsStart
+    turns-most = omega (arith, C .links)
+
+    -- the bytes of a turn
+    turn-byte : (i : ℕ) → i < turnSize → (k : ℕ) → k < turnsOf s → byteAt s (turnAt s k + i) ≡ byteAt t (turnAt t k + i)
+    turn-byte i h k lt = byte-same A (omega (arith, turns-start)) (omega (arith, turns-most, C .turns))
+
+    from-same : (k : ℕ) → k < turnsOf s → fromOf s k ≡ fromOf t k
+    from-same = turn-byte 2 (omega arith)
+
+    to-same : (k : ℕ) → k < turnsOf s → toOf s k ≡ toOf t k
+    to-same = turn-byte 3 (omega arith)
+
+    share-same : (k : ℕ) → k < turnsOf s → shareOf s k ≡ shareOf t k
+    share-same = turn-byte 4 (omega arith)
+
+    turn-ascends : (k : ℕ) → k < turnsOf s → turnAscends s k ≡ turnAscends t k
+    unfolding turnAscends
+    turn-ascends zero lt = refl
+    turn-ascends (suc k) lt = cc (from-same k (omega arith), to-same k (omega arith), from-same (suc k) lt, to-same (suc k) lt)
+
+    share-total : (k : ℕ) → k < turnsOf s → shareTotal s k ≡ shareTotal t k
+    unfolding shareTotal
+    share-total k lt = sum-same (k + 1) _ _ (λ u h. cc (from-same u (omega arith), from-same k lt, share-same u (omega arith)))
+
+    -- the links that a turn joins are read only where they exist
+    joined-same : (k : ℕ) → k < turnsOf s → exist s k ≡ true → eqb (headOf s (fromOf s k)) (tailOf s (toOf s k)) ≡ eqb (headOf t (fromOf t k)) (tailOf t (toOf t k))
+    joined-same k lt e =
+        let both = also-both _ _ e in
+        let from : fromOf s k < linksOf s = ltb-true _ _ (both .0) in
+        let to : toOf s k < linksOf s = ltb-true _ _ (both .1) in
+        let head : headOf s (fromOf s k) ≡ headOf t (fromOf t k) = byte-same A (omega (arith, from-same k lt)) (omega (arith, C .links)) in
+        let tail : tailOf s (toOf s k) ≡ tailOf t (toOf t k) = byte-same A (omega (arith, to-same k lt)) (omega (arith, C .links)) in
+        cc
+
+    pub turn-same : (k : ℕ) → k < turnsOf s → turnFault s k ≡ turnFault t k
+    unfolding turnFault turnOk
+    turn-same k lt =
+        let from = from-same k lt in
+        let to = to-same k lt in
+        let pull : pullOf s k ≡ pullOf t k = u16-same A (omega (arith, turns-start)) (omega (arith, turns-most, C .turns)) in
+        let both : exist s k ≡ exist t k = cc links-same in
+        let joined = also-same both (joined-same k lt) in
+        record-same A _ _ _ _ (omega (arith, turns-start)) (omega arith) (omega (arith, turns-most, C .turns))
+        (cc (joined, share-same k lt, turn-ascends k lt, share-total k lt))
+
+    -- where the signals start
+    signals-start : signalsStart s ≡ signalsStart t
+    unfolding signalsStart
+    signals-start = omega (arith, turns-start, turns-same)
+
+    signals-most : signalsStart s ≤ 329
+    unfolding signalsStart
+    signals-most = omega (arith, turns-most, C .turns)
+
+    pub signal-same : (g : ℕ) → g < signalsOf s → signalFault s g ≡ signalFault t g
+    unfolding signalFault signalOk
+    signal-same g lt =
+        let green : greenByteOf s g ≡ greenByteOf t g = byte-same A (omega (arith, signals-start)) (omega (arith, signals-most, C .signals)) in
+        record-same A _ _ _ _ (omega (arith, signals-start)) (omega arith) (omega (arith, signals-most, C .signals)) (cc links-same)
+
+    -- where the grid starts
+    pub grid-start : gridStart s ≡ gridStart t
+    unfolding gridStart
+    grid-start = omega (arith, signals-start, signals-same)
+
+    pub grid-most : gridStart s ≤ 377
+    unfolding gridStart
+    grid-most = omega (arith, signals-most, C .signals)

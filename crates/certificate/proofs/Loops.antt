@@ -1,0 +1,99 @@
+-- Laws of the loops of specs/Loops.antt. Assumes nothing.
+use Prim.Native.Nat.{ℕ, zero, suc, _+_, _*_, _-_, _≤_, _<_}
+use mathlib.Core.Bool.{Bool, true, false, _&&_, false≢true}
+use mathlib.Core.Path.{_≡_, refl, sym, ap, _∙_}
+use mathlib.Core.Logic.{⊎-elim}
+use native.Mathlib.Nat.{eq-or-lt-of-le, add-mul}
+use native.Mathlib.Omega.{arith}
+use borrow.Author.Tests.{leb-true, leb-false}
+use lib.Dec.{leb}
+use Rattle.certificate.specs.Loops.{pick, sumTo, everyOf, everyFrom, every, firstOfThese, findFrom, find, turns, from}
+use Rattle.certificate.proofs.Tests.{and-both, both-and}
+
+-- one turn of a loop that carries a state, and its end
+module _ {S R : Type 0} where
+  pub from-turn : (turn : ℕ → S → (S → R) → R) (done : S → R) (n i : ℕ) (s : S) → i < n → from turn done n i s ≡ turn i s (from turn done n (i + 1))
+  unfolding from turns
+  from-turn turn done n i s h = let e : n - i ≡ suc (n - (i + 1)) = omega arith in rw e
+
+  pub from-end : (turn : ℕ → S → (S → R) → R) (done : S → R) (n i : ℕ) (s : S) → n ≤ i → from turn done n i s ≡ done s
+  unfolding from turns
+  from-end turn done n i s h = let e : n - i ≡ 0 = omega arith in rw e
+
+-- every index passes the test, one by one
+of-every : (p : ℕ → Bool) (m i k : ℕ) → everyOf p m i ≡ true → i ≤ k → k < i + m → p k ≡ true
+unfolding everyOf
+of-every p zero i k e a b = absurd (omega arith)
+of-every p (suc m) i k e a b =
+    let h = and-both (p i) (everyOf p m (i + 1)) e in
+    ⊎-elim (λ (j : i ≡ k). rw j at (h .0)) (λ l. of-every p m (i + 1) k (h .1) (omega arith) (omega arith)) (eq-or-lt-of-le a)
+
+every-of : (p : ℕ → Bool) (m i : ℕ) → ((k : ℕ) → i ≤ k → k < i + m → p k ≡ true) → everyOf p m i ≡ true
+unfolding everyOf
+every-of p zero i h = refl
+every-of p (suc m) i h = both-and _ _ (h i (omega arith) (omega arith)) (every-of p m (i + 1) (λ k a b. h k (omega arith) (omega arith)))
+
+pub every-each : (n : ℕ) (p : ℕ → Bool) → every n p ≡ true → (k : ℕ) → k < n → p k ≡ true
+unfolding everyFrom
+every-each n p e k h = of-every p (n - 0) 0 k e (omega arith) (omega arith)
+
+pub each-every : (n : ℕ) (p : ℕ → Bool) → ((k : ℕ) → k < n → p k ≡ true) → every n p ≡ true
+unfolding everyFrom
+each-every n p h = every-of p (n - 0) 0 (λ k a b. h k (omega arith))
+
+pub every-turn : (n i : ℕ) (p : ℕ → Bool) → i < n → everyFrom n p i ≡ (p i && everyFrom n p (i + 1))
+unfolding everyFrom everyOf
+every-turn n i p h = let e : n - i ≡ suc (n - (i + 1)) = omega arith in rw e
+
+pub every-end : (n i : ℕ) (p : ℕ → Bool) → n ≤ i → everyFrom n p i ≡ true
+unfolding everyFrom everyOf
+every-end n i p h = let e : n - i ≡ 0 = omega arith in rw e
+
+-- the first index that passes a test: what lies before it fails, and it passes where it is below n
+pub record Found (n : ℕ) (p : ℕ → Bool) (i k : ℕ) : Type 0 where
+  pub least : i ≤ k
+  pub most : k ≤ n
+  pub passes : k < n → p k ≡ true
+  pub before : (j : ℕ) → i ≤ j → j < k → p j ≡ false
+
+found-of : (p : ℕ → Bool) (m i n : ℕ) → n ≡ i + m → Found n p i (firstOfThese p m i)
+unfolding firstOfThese
+found-of p zero i n e = record { least = omega arith; most = omega arith; passes = λ h. absurd (omega arith); before = λ j a b. absurd (omega arith) }
+found-of p (suc m) i n e = go (p i) refl (found-of p m (i + 1) n (omega arith))
+  where
+    go : (b : Bool) → p i ≡ b → Found n p (i + 1) (firstOfThese p m (i + 1)) → Found n p i (pick b i (firstOfThese p m (i + 1)))
+    go true q r = record { least = omega arith; most = omega arith; passes = λ h. q; before = λ j a b. absurd (omega arith) }
+    go false q r =
+        record {
+          least = omega (arith, r .least);
+          most = r .most;
+          passes = r .passes;
+          before = λ j a b. ⊎-elim (λ (x : i ≡ j). rw x at q) (λ l. r .before j (omega arith) b) (eq-or-lt-of-le a);
+        }
+
+pub found : (n : ℕ) (p : ℕ → Bool) → Found n p 0 (find n p)
+unfolding findFrom
+found n p = found-of p (n - 0) 0 n (omega arith)
+
+-- an index that passes is not before the first that does
+pub find-least : (n : ℕ) (p : ℕ → Bool) (k : ℕ) → p k ≡ true → find n p ≤ k
+find-least n p k e = lt-or (leb (find n p) k) refl
+  where
+    lt-or : (b : Bool) → leb (find n p) k ≡ b → find n p ≤ k
+    lt-or true q = leb-true _ _ q
+    lt-or false q = absurd (false≢true (sym (found n p .before k (omega arith) (leb-false _ _ q)) ∙ e))
+
+-- two sums whose terms agree
+pub sum-same : (n : ℕ) (f g : ℕ → ℕ) → ((t : ℕ) → t < n → f t ≡ g t) → sumTo n f ≡ sumTo n g
+unfolding sumTo
+sum-same zero f g h = refl
+sum-same (suc n) f g h = rw (sum-same n f g (λ t lt. h t (omega arith)), h n (omega arith))
+
+-- a sum whose every term is short by at most a weight times d is short by at most the sum of the weights times d
+pub sum-slack : (n : ℕ) (f g w : ℕ → ℕ) (d : ℕ) → ((t : ℕ) → t < n → f t ≤ g t + w t * d) → sumTo n f ≤ sumTo n g + sumTo n w * d
+unfolding sumTo
+sum-slack zero f g w d h = omega arith
+sum-slack (suc n) f g w d h =
+    let last : f n ≤ g n + w n * d = h n (omega arith) in
+    let rest : sumTo n f ≤ sumTo n g + sumTo n w * d = sum-slack n f g w d (λ t lt. h t (omega arith)) in
+    rw add-mul (omega arith)

@@ -1,0 +1,79 @@
+-- What the tests of each record say (specs/Records.antt), in the plain terms of specs/Facts.antt, both ways. Assumes nothing.
+use Prim.Native.Nat.{ℕ, zero, suc, _+_, _-_, _≤_, _<_}
+use mathlib.Core.Bool.{true}
+use mathlib.Core.List.{List}
+use mathlib.Core.Path.{_≡_, refl}
+use mathlib.Core.Logic.{_↔_}
+use native.Mathlib.Omega.{arith}
+use borrow.Author.Tests.{le-leb}
+use lib.ListN.{length}
+use lib.Dec.{leb}
+use Rattle.certificate.specs.Checks.{fine}
+use Rattle.certificate.specs.Layout.{headerSize, linkSize, turnSize, signalSize, gridSize, arrivalSize, entrySize, endSize, linksOf, linkAt, turnAt, signalAt, gridAt, intervalsOf, cutOf, capOf, arrivalAt, entryAt, endAt}
+use Rattle.certificate.specs.Records.{headerOk, headerFault, linkOk, linkFault, turnAscends, shareTotal, turnOk, turnFault, signalOk, signalFault, cutBefore, cutOk, cutFault, countOk, gridFault, rangeOk, rangeFault, arrivalFault, entryAscends, entryOk, entryFault, endFault}
+use Rattle.certificate.specs.Facts.{Mark, HeaderFacts, LinkFacts, TurnFacts, SignalFacts, GridFacts, BoxFacts, EntryFacts}
+use Rattle.certificate.proofs.Says.{says}
+use Rattle.certificate.proofs.Ascending.{all-ascend}
+
+-- the record of that size at o ends within s
+abbrev pub Within : List ℕ → ℕ → ℕ → Type 0
+Within s o size = o + size ≤ length s
+
+pub header-says : (s : List ℕ) → (headerFault s .number ≡ 0) ↔ (Within s 0 headerSize × HeaderFacts s)
+unfolding headerFault headerOk
+header-says s = simp says (omega arith)
+
+pub link-says : (s : List ℕ) (l : ℕ) → (linkFault s l .number ≡ 0) ↔ (Within s (linkAt l) linkSize × LinkFacts s l)
+unfolding linkFault linkOk
+link-says s l = simp says (omega arith)
+
+pub signal-says : (s : List ℕ) (g : ℕ) → (signalFault s g .number ≡ 0) ↔ (Within s (signalAt s g) signalSize × SignalFacts s g)
+unfolding signalFault signalOk
+signal-says s g = simp says (omega arith)
+
+pub turn-says : (s : List ℕ) (t : ℕ) → (turnFault s t .number ≡ 0) ↔ (Within s (turnAt s t) turnSize × TurnFacts s t × (turnAscends s t ≡ true) × (shareTotal s t ≤ 100))
+unfolding turnFault turnOk
+turn-says s t = simp says (λ h. (omega arith, omega arith, h .1 .0 .0 .1, omega arith), λ h. (omega arith, (((omega arith, h .2), omega arith), refl)))
+
+pub entry-says : (s : List ℕ) (e : ℕ) → (entryFault s e .number ≡ 0) ↔ (Within s (entryAt s e) entrySize × EntryFacts s e × (entryAscends s e ≡ true))
+unfolding entryFault entryOk
+entry-says s e = simp says (λ h. (omega arith, omega arith, h .1 .0 .1), λ h. (omega arith, ((omega arith, h .2), refl)))
+
+pub end-says : (s : List ℕ) → (endFault s .number ≡ 0) ↔ ((length s ≡ endAt s + endSize) × Mark s (endAt s) 90 90)
+unfolding endFault
+end-says s = simp says (omega arith)
+
+pub box-says : (s : List ℕ) (b : ℕ) → (arrivalFault s b .number ≡ 0) ↔ (Within s (arrivalAt s b) (arrivalSize (linksOf s)) × BoxFacts s b)
+unfolding arrivalFault rangeFault rangeOk
+box-says s b =
+    let z : leb 2 (arrivalSize (linksOf s)) ≡ true = le-leb 2 (arrivalSize (linksOf s)) (omega arith) in
+    simp (says, z) (
+      λ h. (omega arith, record { mark = h .0 .1; low-most = λ l lt. h .1 l lt .0 .0; high-most = λ l lt. h .1 l lt .0 .1 }),
+      λ h. ((omega arith, h .1 .mark), λ l lt. ((h .1 .low-most l lt, h .1 .high-most l lt), refl)),
+    )
+
+pub grid-says : (s : List ℕ) (l : ℕ) → (gridFault s l .number ≡ 0) ↔ (Within s (gridAt s l) (gridSize (intervalsOf s l)) × GridFacts s l)
+unfolding gridFault countOk cutFault cutOk cutBefore
+grid-says s l =
+    simp says (
+      λ h. (
+        omega arith,
+        record {
+          mark = h .0 .1;
+          count-least = omega arith;
+          count-most = omega arith;
+          product-most = omega arith;
+          cut-least = λ i lt. omega (arith, h .1 .1 .1 i (omega arith));
+          cut-most = λ i lt. h .1 .1 .1 i (omega arith) .0 .1;
+          ascend = λ i j a b. all-ascend (λ x y. cutOf s l x < cutOf s l y) (λ x y z p q. omega arith) (intervalsOf s l - 1) (λ k lt. h .1 .1 .1 (suc k) lt .0 .0) i j a (omega arith);
+        },
+      ),
+      λ h. (omega arith, (omega arith, (omega arith, cuts (h .1)))),
+    )
+  where
+    cuts : GridFacts s l → (k : ℕ) → k < intervalsOf s l - 1 → ((cutBefore s l k < cutOf s l k) × (cutOf s l k < capOf s l)) × (fine .number ≡ 0)
+    cuts h zero lt = ((h .cut-least 0 (omega arith), h .cut-most 0 (omega arith)), refl)
+    cuts h (suc k) lt = ((h .ascend k (suc k) (omega arith) (omega arith), h .cut-most (suc k) (omega arith)), refl)
+
+-- all of them, with the tests that they are made of
+pub ruleset records-say = (says, header-says, link-says, turn-says, signal-says, grid-says, box-says, entry-says, end-says)

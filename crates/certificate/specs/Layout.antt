@@ -1,0 +1,208 @@
+-- Paper layout of document 01: the limits of the format, where each record stands, and its fields.
+-- Records come in the order HD, LK, TN, SG, GR, AR, EN, ZZ.
+use Prim.Native.Nat.{ℕ, zero, suc, _+_, _*_, _-_}
+use mathlib.Core.List.{List}
+use Rattle.certificate.specs.Octets.{byteAt, u16At}
+
+-- The limits.
+abbrev pub maxLinks : ℕ
+maxLinks = 8
+
+abbrev pub maxTurns : ℕ
+maxTurns = 32
+
+abbrev pub maxSignals : ℕ
+maxSignals = 16
+
+abbrev pub maxModes : ℕ
+maxModes = 8
+
+abbrev pub maxBoxes : ℕ
+maxBoxes = 8
+
+abbrev pub maxEntries : ℕ
+maxEntries = 4096
+
+abbrev pub maxCap : ℕ
+maxCap = 10000
+
+abbrev pub maxPull : ℕ
+maxPull = 10000
+
+abbrev pub maxArrival : ℕ
+maxArrival = 10000
+
+abbrev pub maxIntervals : ℕ
+maxIntervals = 15
+
+abbrev pub maxCells : ℕ
+maxCells = 4096
+
+-- The sizes of the records, marks included. A GR holds a mark, a count and one cut fewer than its count.
+abbrev pub headerSize : ℕ
+headerSize = 9
+
+abbrev pub linkSize : ℕ
+linkSize = 12
+
+abbrev pub turnSize : ℕ
+turnSize = 7
+
+abbrev pub signalSize : ℕ
+signalSize = 3
+
+abbrev pub gridSize : ℕ → ℕ
+gridSize count = 1 + 2 * count
+
+abbrev pub arrivalSize : ℕ → ℕ
+arrivalSize links = 2 + 4 * links
+
+abbrev pub entrySize : ℕ
+entrySize = 9
+
+abbrev pub endSize : ℕ
+endSize = 2
+
+-- the greatest length of a certificate: the sum of its greatest records
+abbrev pub maxLength : ℕ
+maxLength =
+    headerSize + maxLinks * linkSize + maxTurns * turnSize + maxSignals * signalSize + maxLinks * gridSize maxIntervals
+    + maxBoxes * arrivalSize maxLinks + maxEntries * entrySize + endSize
+
+-- HD: how many links, turns, signals, modes, arrival boxes, entries.
+abbrev pub linksOf : List ℕ → ℕ
+linksOf s = byteAt s 2
+
+abbrev pub turnsOf : List ℕ → ℕ
+turnsOf s = byteAt s 3
+
+abbrev pub signalsOf : List ℕ → ℕ
+signalsOf s = byteAt s 4
+
+abbrev pub modesOf : List ℕ → ℕ
+modesOf s = byteAt s 5
+
+abbrev pub boxesOf : List ℕ → ℕ
+boxesOf s = byteAt s 6
+
+abbrev pub entriesOf : List ℕ → ℕ
+entriesOf s = u16At s 7
+
+-- LK, link l: tail and head junction, cap (storage capacity), flow (saturation flow: the most that leaves in a step), safe, goal.
+abbrev pub linkAt : ℕ → ℕ
+linkAt l = headerSize + linkSize * l
+
+abbrev pub tailOf : List ℕ → ℕ → ℕ
+tailOf s l = byteAt s (linkAt l + 2)
+
+abbrev pub headOf : List ℕ → ℕ → ℕ
+headOf s l = byteAt s (linkAt l + 3)
+
+abbrev pub capOf : List ℕ → ℕ → ℕ
+capOf s l = u16At s (linkAt l + 4)
+
+abbrev pub flowOf : List ℕ → ℕ → ℕ
+flowOf s l = u16At s (linkAt l + 6)
+
+abbrev pub safeOf : List ℕ → ℕ → ℕ
+safeOf s l = u16At s (linkAt l + 8)
+
+abbrev pub goalOf : List ℕ → ℕ → ℕ
+goalOf s l = u16At s (linkAt l + 10)
+
+-- TN, turn t: from, to, share (turn ratio in hundredths), pull (supply ratio in hundredths).
+unfoldable pub turnsStart : List ℕ → ℕ
+turnsStart s = linkAt (linksOf s)
+
+abbrev pub turnAt : List ℕ → ℕ → ℕ
+turnAt s t = turnsStart s + turnSize * t
+
+abbrev pub fromOf : List ℕ → ℕ → ℕ
+fromOf s t = byteAt s (turnAt s t + 2)
+
+abbrev pub toOf : List ℕ → ℕ → ℕ
+toOf s t = byteAt s (turnAt s t + 3)
+
+abbrev pub shareOf : List ℕ → ℕ → ℕ
+shareOf s t = byteAt s (turnAt s t + 4)
+
+abbrev pub pullOf : List ℕ → ℕ → ℕ
+pullOf s t = u16At s (turnAt s t + 5)
+
+-- SG, signal g: the byte whose bit i is set when link i is green.
+unfoldable pub signalsStart : List ℕ → ℕ
+signalsStart s = turnAt s (turnsOf s)
+
+abbrev pub signalAt : List ℕ → ℕ → ℕ
+signalAt s g = signalsStart s + signalSize * g
+
+abbrev pub greenByteOf : List ℕ → ℕ → ℕ
+greenByteOf s g = byteAt s (signalAt s g + 2)
+
+-- GR, link l: how many intervals, and its cuts. The records differ in size, so each starts where the one before it ends.
+unfoldable pub gridStart : List ℕ → ℕ
+gridStart s = signalAt s (signalsOf s)
+
+abbrev pub countAt : List ℕ → ℕ → ℕ
+countAt s o = byteAt s (o + 2)
+
+abbrev pub cutAt : List ℕ → ℕ → ℕ → ℕ
+cutAt s o i = u16At s (o + 3 + 2 * i)
+
+unfoldable pub gridAt : List ℕ → ℕ → ℕ
+gridAt s zero = gridStart s
+gridAt s (suc l) = gridAt s l + gridSize (countAt s (gridAt s l))
+
+abbrev pub intervalsOf : List ℕ → ℕ → ℕ
+intervalsOf s l = countAt s (gridAt s l)
+
+abbrev pub cutOf : List ℕ → ℕ → ℕ → ℕ
+cutOf s l i = cutAt s (gridAt s l) i
+
+-- the product of the counts of the links before l
+unfoldable pub productOf : List ℕ → ℕ → ℕ
+productOf s zero = 1
+productOf s (suc l) = productOf s l * intervalsOf s l
+
+-- how many cells there are
+abbrev pub cellsOf : List ℕ → ℕ
+cellsOf s = productOf s (linksOf s)
+
+-- AR, arrival box b: for each link the least (low) and the most (high) that arrives in a step.
+unfoldable pub arrivalsStart : List ℕ → ℕ
+arrivalsStart s = gridAt s (linksOf s)
+
+abbrev pub arrivalAt : List ℕ → ℕ → ℕ
+arrivalAt s b = arrivalsStart s + arrivalSize (linksOf s) * b
+
+abbrev pub lowOf : List ℕ → ℕ → ℕ → ℕ
+lowOf s b l = u16At s (arrivalAt s b + (2 + 4 * l))
+
+abbrev pub highOf : List ℕ → ℕ → ℕ → ℕ
+highOf s b l = u16At s (arrivalAt s b + (4 + 4 * l))
+
+-- EN, entry e: cell, mode, signal, next mode, rank (the progress measure).
+unfoldable pub entriesStart : List ℕ → ℕ
+entriesStart s = arrivalAt s (boxesOf s)
+
+abbrev pub entryAt : List ℕ → ℕ → ℕ
+entryAt s e = entriesStart s + entrySize * e
+
+abbrev pub cellOf : List ℕ → ℕ → ℕ
+cellOf s e = u16At s (entryAt s e + 2)
+
+abbrev pub modeOf : List ℕ → ℕ → ℕ
+modeOf s e = byteAt s (entryAt s e + 4)
+
+abbrev pub signalOf : List ℕ → ℕ → ℕ
+signalOf s e = byteAt s (entryAt s e + 5)
+
+abbrev pub nextModeOf : List ℕ → ℕ → ℕ
+nextModeOf s e = byteAt s (entryAt s e + 6)
+
+abbrev pub rankOf : List ℕ → ℕ → ℕ
+rankOf s e = u16At s (entryAt s e + 7)
+
+-- ZZ: nothing follows.
+unfoldable pub endAt : List ℕ → ℕ
+endAt s = entryAt s (entriesOf s)

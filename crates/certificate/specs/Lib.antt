@@ -1,0 +1,9 @@
+-- The definitions of reading, in the order of document 01.
+pub mod Octets
+pub mod Loops
+pub mod Checks
+pub mod Layout
+pub mod Records
+pub mod Reading
+pub mod Facts
+pub mod Laws

@@ -1,0 +1,137 @@
+-- The tests of each record, and their refusals 1 to 9.
+use Prim.Native.Nat.{ℕ, zero, suc, _+_, _*_, _-_, _^_}
+use mathlib.Core.List.{List}
+use mathlib.Core.Bool.{Bool, true, not, _&&_, _||_}
+use lib.ListN.{length}
+use lib.Dec.{ltb, leb, eqb}
+use Rattle.certificate.specs.declared.Report.{Report}
+use Rattle.certificate.specs.Octets.{byteAt, _also_}
+use Rattle.certificate.specs.Loops.{pick, sumTo}
+use Rattle.certificate.specs.Checks.{refusal, fine, need, orElse, firstBad, opened}
+use Rattle.certificate.specs.Layout.{maxLinks, maxTurns, maxSignals, maxModes, maxBoxes, maxEntries, maxCap, maxPull, maxArrival, maxIntervals, maxCells, headerSize, linkSize, turnSize, signalSize, gridSize, arrivalSize, entrySize, endSize, linksOf, turnsOf, signalsOf, modesOf, boxesOf, entriesOf, linkAt, tailOf, headOf, capOf, flowOf, safeOf, goalOf, turnAt, fromOf, toOf, shareOf, pullOf, signalAt, greenByteOf, gridAt, intervalsOf, cutOf, productOf, cellsOf, arrivalAt, lowOf, highOf, entryAt, cellOf, modeOf, signalOf, nextModeOf, endAt}
+
+-- HD: links 1 to 8, turns 0 to 32, signals 1 to 16, modes 1 to 8, arrival boxes 1 to 8, entries 1 to 4,096. Mark "HD".
+unfoldable pub headerOk : List ℕ → Bool
+headerOk s =
+    leb 1 (linksOf s) also leb (linksOf s) maxLinks
+    also leb (turnsOf s) maxTurns
+    also leb 1 (signalsOf s) also leb (signalsOf s) maxSignals
+    also leb 1 (modesOf s) also leb (modesOf s) maxModes
+    also leb 1 (boxesOf s) also leb (boxesOf s) maxBoxes
+    also leb 1 (entriesOf s) also leb (entriesOf s) maxEntries
+
+unfoldable pub headerFault : List ℕ → Report
+headerFault s = orElse (opened s 0 72 68 headerSize) (need (headerOk s) (refusal 3 0) fine)
+
+-- LK: head 1 to 255 and not the tail, cap 1 to 10,000, flow 1 to cap, safe at most cap, goal at most safe. Mark "LK".
+unfoldable pub linkOk : List ℕ → ℕ → Bool
+linkOk s l =
+    leb 1 (headOf s l)
+    also not (eqb (headOf s l) (tailOf s l))
+    also leb 1 (capOf s l) also leb (capOf s l) maxCap
+    also leb 1 (flowOf s l) also leb (flowOf s l) (capOf s l)
+    also leb (safeOf s l) (capOf s l)
+    also leb (goalOf s l) (safeOf s l)
+
+unfoldable pub linkFault : List ℕ → ℕ → Report
+linkFault s l =
+    orElse (opened s (linkAt l) 76 75 linkSize)
+    (need (linkOk s l) (refusal 4 (linkAt l)) fine)
+
+-- pairs (a, b) and (c, d) ascend strictly: by the first, then by the second
+unfoldable pub pairBelow : ℕ → ℕ → ℕ → ℕ → Bool
+pairBelow a b c d = ltb a c || (eqb a c && ltb b d)
+
+-- the pair (from, to) of turn t is above that of the turn before it
+unfoldable pub turnAscends : List ℕ → ℕ → Bool
+turnAscends s zero = true
+turnAscends s (suc t) = pairBelow (fromOf s t) (toOf s t) (fromOf s (suc t)) (toOf s (suc t))
+
+-- what the shares from the link of turn t total, up to that turn
+unfoldable pub shareTotal : List ℕ → ℕ → ℕ
+shareTotal s t = sumTo (t + 1) (λ u. pick (eqb (fromOf s u) (fromOf s t)) (shareOf s u) 0)
+
+-- TN: existing links, head of from = tail of to, share 1 to 100, pull 1 to 10,000; pairs ascend; shares total at most 100. Mark "TN".
+unfoldable pub turnOk : List ℕ → ℕ → Bool
+turnOk s t =
+    ltb (fromOf s t) (linksOf s) also ltb (toOf s t) (linksOf s)
+    also eqb (headOf s (fromOf s t)) (tailOf s (toOf s t))
+    also leb 1 (shareOf s t) also leb (shareOf s t) 100
+    also leb 1 (pullOf s t) also leb (pullOf s t) maxPull
+    also turnAscends s t
+    also leb (shareTotal s t) 100
+
+unfoldable pub turnFault : List ℕ → ℕ → Report
+turnFault s t =
+    orElse (opened s (turnAt s t) 84 78 turnSize)
+    (need (turnOk s t) (refusal 5 (turnAt s t)) fine)
+
+-- SG: bits of absent links are 0. Mark "SG".
+unfoldable pub signalOk : List ℕ → ℕ → Bool
+signalOk s g = ltb (greenByteOf s g) (2 ^ linksOf s)
+
+unfoldable pub signalFault : List ℕ → ℕ → Report
+signalFault s g =
+    orElse (opened s (signalAt s g) 83 71 signalSize)
+    (need (signalOk s g) (refusal 6 (signalAt s g)) fine)
+
+-- the cut before cut i of link l, and 0 before the first
+unfoldable pub cutBefore : List ℕ → ℕ → ℕ → ℕ
+cutBefore s l zero = 0
+cutBefore s l (suc i) = cutOf s l i
+
+-- cuts ascend strictly, from 1 to cap − 1
+unfoldable pub cutOk : List ℕ → ℕ → ℕ → Bool
+cutOk s l i = ltb (cutBefore s l i) (cutOf s l i) also ltb (cutOf s l i) (capOf s l)
+
+unfoldable pub cutFault : List ℕ → ℕ → ℕ → Report
+cutFault s l i = need (cutOk s l i) (refusal 7 (gridAt s l)) fine
+
+-- interval count 1 to 15, and the product of the counts so far at most 4,096
+unfoldable pub countOk : List ℕ → ℕ → Bool
+countOk s l =
+    leb 1 (intervalsOf s l) also leb (intervalsOf s l) maxIntervals
+    also leb (productOf s l * intervalsOf s l) maxCells
+
+-- GR: mark and count present; the count, with the product so far; the cuts present; the cuts. Mark "GR".
+unfoldable pub gridFault : List ℕ → ℕ → Report
+gridFault s l =
+    orElse (opened s (gridAt s l) 71 82 3)
+    (need (countOk s l) (refusal 7 (gridAt s l))
+    (need (leb (gridAt s l + gridSize (intervalsOf s l)) (length s)) (refusal 1 (gridAt s l))
+    (firstBad (intervalsOf s l - 1) (cutFault s l))))
+
+-- AR: for each link low at most high, high at most 10,000. Mark "AR".
+unfoldable pub rangeOk : List ℕ → ℕ → ℕ → Bool
+rangeOk s b l = leb (lowOf s b l) (highOf s b l) also leb (highOf s b l) maxArrival
+
+unfoldable pub rangeFault : List ℕ → ℕ → ℕ → Report
+rangeFault s b l = need (rangeOk s b l) (refusal 8 (arrivalAt s b)) fine
+
+unfoldable pub arrivalFault : List ℕ → ℕ → Report
+arrivalFault s b =
+    orElse (opened s (arrivalAt s b) 65 82 (arrivalSize (linksOf s)))
+    (firstBad (linksOf s) (rangeFault s b))
+
+-- the pair (cell, mode) of entry e is above that of the entry before it
+unfoldable pub entryAscends : List ℕ → ℕ → Bool
+entryAscends s zero = true
+entryAscends s (suc e) = pairBelow (cellOf s e) (modeOf s e) (cellOf s (suc e)) (modeOf s (suc e))
+
+-- EN: cell, mode, signal and next mode exist; pairs ascend; the rank is free. Mark "EN".
+unfoldable pub entryOk : List ℕ → ℕ → Bool
+entryOk s e =
+    ltb (cellOf s e) (cellsOf s) also ltb (modeOf s e) (modesOf s)
+    also ltb (signalOf s e) (signalsOf s) also ltb (nextModeOf s e) (modesOf s)
+    also entryAscends s e
+
+unfoldable pub entryFault : List ℕ → ℕ → Report
+entryFault s e =
+    orElse (opened s (entryAt s e) 69 78 entrySize)
+    (need (entryOk s e) (refusal 9 (entryAt s e)) fine)
+
+-- ZZ: nothing follows; a byte after it is refused at its own offset. Mark "ZZ".
+unfoldable pub endFault : List ℕ → Report
+endFault s =
+    orElse (opened s (endAt s) 90 90 endSize)
+    (need (leb (length s) (endAt s + endSize)) (refusal 2 (endAt s + endSize)) fine)

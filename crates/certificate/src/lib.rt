@@ -1,0 +1,9 @@
+// Reading a certificate: the bytes of a signal policy certificate (document 01: a paper), record by record.
+
+// The answer of a call: its number (0 is success, else the refusal), places A and B, and the count of successors looked up.
+pub struct Report {
+    pub number: u8,
+    pub a: u32,
+    pub b: u32,
+    pub count: u32,
+}

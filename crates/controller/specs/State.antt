@@ -1,0 +1,31 @@
+-- The state, what it holds, and loading.
+use Prim.Native.Nat.{ℕ, _-_}
+use mathlib.Core.List.{List, _++_}
+use mathlib.Core.Bool.{Bool, _&&_, cond}
+use lib.ListN.{length, take, replicate}
+use lib.Dec.{leb, eqb}
+use Rattle.certificate.specs.Layout.{maxLength}
+use Rattle.network.specs.Conditions.{screeningOf}
+use Rattle.judging.specs.Verdict.{verdictOf}
+use Rattle.controller.specs.declared.Controller.{Controller}
+use Rattle.controller.specs.declared.Loaded.{Loaded}
+
+-- a fresh state is in mode 0 and holds no certificate
+abbrev pub freshState : Controller
+freshState = record { bytes = replicate maxLength 0; len = 0; mode = 0 }
+
+-- the state that holds its own copy of s, in mode 0; the array's bytes past the copy are 0
+abbrev pub holding : List ℕ → Controller
+holding s = record { bytes = s ++ replicate (maxLength - length s) 0; len = length s; mode = 0 }
+
+-- the stored bytes: the first len of the array
+abbrev pub stored : Controller → List ℕ
+stored c = take (c .len) (c .bytes)
+
+-- the state holds a certificate (refusal 18 where it does not): its stored bytes pass every test that comes before 12
+unfoldable pub holdsCertificate : Controller → Bool
+holdsCertificate c = leb (c .len) maxLength && eqb (screeningOf (stored c) .number) 0
+
+-- an accepted load stores its own copy and sets mode 0; a refused one changes nothing
+unfoldable pub loadOf : Controller → List ℕ → Loaded
+loadOf c s = record { report = verdictOf s; state = cond (eqb (verdictOf s .number) 0) (holding s) c }

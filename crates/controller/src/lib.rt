@@ -1,0 +1,53 @@
+// The controller: a state that holds one certificate and a mode, and the calls load, query and write.
+use certificate::Report;
+
+// The state by value: the stored certificate's bytes, how many there are, and the mode.
+pub struct Controller {
+    pub bytes: [u8; Controller::SIZE],
+    pub len: usize,
+    pub mode: u8,
+}
+
+impl Controller {
+    // The limits of the format.
+    pub const MAX_LINKS: usize = 8;
+
+    pub const MAX_TURNS: usize = 32;
+
+    pub const MAX_SIGNALS: usize = 16;
+
+    pub const MAX_MODES: usize = 8;
+
+    pub const MAX_BOXES: usize = 8;
+
+    pub const MAX_ENTRIES: usize = 4096;
+
+    pub const MAX_INTERVALS: usize = 15;
+
+    // The greatest length of a certificate: the sum of its greatest records HD, LK, TN, SG, GR, AR, EN, ZZ.
+    pub const SIZE: usize = 9
+        + Controller::MAX_LINKS * 12
+        + Controller::MAX_TURNS * 7
+        + Controller::MAX_SIGNALS * 3
+        + Controller::MAX_LINKS * (1 + 2 * Controller::MAX_INTERVALS)
+        + Controller::MAX_BOXES * (2 + 4 * Controller::MAX_LINKS)
+        + Controller::MAX_ENTRIES * 9
+        + 2;
+
+    // The scales that a query may use: 1 to this.
+    pub const MAX_SCALE: u32 = 100000;
+}
+
+// What a load answers: its report and the next state.
+pub struct Loaded {
+    pub report: Report,
+    pub state: Controller,
+}
+
+// What a query answers: its report, the signal to show and its green byte, and the next state.
+pub struct Shown {
+    pub report: Report,
+    pub signal: u8,
+    pub green: u8,
+    pub state: Controller,
+}

@@ -1,0 +1,99 @@
+-- What is proved of intervals, cells, images and successors (proofs/ of this crate). Statements only.
+use Prim.Native.Nat.{ℕ, _+_, _*_, _≤_, _<_}
+use mathlib.Core.List.{List}
+use mathlib.Core.Bool.{true}
+use mathlib.Core.Logic.{_↔_}
+use mathlib.Core.Path.{_≡_}
+use Rattle.certificate.specs.Layout.{linksOf, capOf, signalsOf, intervalsOf, productOf, cellsOf, boxesOf, lowOf, highOf}
+use Rattle.certificate.specs.Facts.{Readable}
+use Rattle.network.specs.Network.{networkOf, limitOf}
+use Rattle.network.specs.Flow.{next}
+use Rattle.network.specs.Sound.{Within}
+use Rattle.network.specs.Laws.{IsMet, Screened}
+use Rattle.grid.specs.Intervals.{InInterval, intervalAt}
+use Rattle.grid.specs.Cells.{numberOf, intervalIn, lowerOf, upperOf, InCell, cellAt}
+use Rattle.grid.specs.Successors.{imageLow, imageHigh, isSuccessor}
+
+-- a choice of one existing interval for each link
+abbrev pub Choice : List ℕ → (ℕ → ℕ) → Type 0
+Choice s i = (l : ℕ) → l < linksOf s → i l < intervalsOf s l
+
+-- numbers built link by link are below the product of the counts so far
+abbrev pub NumbersFit : Type 0
+NumbersFit = (s : List ℕ) (i : ℕ → ℕ) → Choice s i → (l : ℕ) → l ≤ linksOf s → numberOf s i l < productOf s l
+
+-- reading the intervals back from the number of a choice gives the choice
+abbrev pub ReadsBack : Type 0
+ReadsBack =
+    (s : List ℕ) (i : ℕ → ℕ) → Choice s i → (l : ℕ) → l < linksOf s → intervalIn s (numberOf s i (linksOf s)) l ≡ i l
+
+-- the intervals read from a cell number are a choice, and its number is that cell: so each number below the product comes from exactly one choice
+abbrev pub IsChoice : Type 0
+IsChoice = (s : List ℕ) → Readable s → (c : ℕ) → Choice s (intervalIn s c)
+
+abbrev pub BuildsAgain : Type 0
+BuildsAgain = (s : List ℕ) → Readable s → (c : ℕ) → c < cellsOf s → numberOf s (intervalIn s c) (linksOf s) ≡ c
+
+-- every queue from 0 to cap, over any scale, lies in exactly one interval
+abbrev pub OneInterval : Type 0
+OneInterval =
+    (s : List ℕ) → Readable s → (l D x : ℕ) → l < linksOf s → 1 ≤ D → x ≤ D * capOf s l
+    → InInterval s l (intervalAt s l D x) D x × ((i : ℕ) → InInterval s l i D x → i ≡ intervalAt s l D x)
+
+-- hence all queues at most cap lie in exactly one cell
+abbrev pub OneCell : Type 0
+OneCell =
+    (s : List ℕ) → Readable s → (D : ℕ) (x : ℕ → ℕ) → 1 ≤ D → ((l : ℕ) → l < linksOf s → x l ≤ D * capOf s l)
+    → InCell s (cellAt s D x) D x × ((c : ℕ) → InCell s c D x → c ≡ cellAt s D x)
+
+-- queues x over scale D lie in the closed cell c; arrivals a in arrival box b
+abbrev pub InClosedCell : List ℕ → ℕ → ℕ → (ℕ → ℕ) → Type 0
+InClosedCell s c D x = Within (linksOf s) (lowerOf s c) (upperOf s c) D x
+
+abbrev pub InBox : List ℕ → ℕ → ℕ → (ℕ → ℕ) → Type 0
+InBox s b D a = Within (linksOf s) (lowOf s b) (highOf s b) D a
+
+-- Smallest box: the image holds all exact next queues from the closed cell and the arrival box, over every scale, and each end is met
+pub record ImageOf (s : List ℕ) (g b c : ℕ) : Type 0 where
+  pub holds : (D : ℕ) (x a : ℕ → ℕ) → InClosedCell s c D x → InBox s b D a → (l : ℕ) → l < linksOf s
+      → (D * imageLow s g b c l ≤ next (networkOf s) (limitOf s g) D x a l)
+      × (next (networkOf s) (limitOf s g) D x a l ≤ D * imageHigh s g b c l)
+  pub low-met : (l : ℕ) → l < linksOf s
+      → IsMet (networkOf s) (limitOf s g) (lowerOf s c) (upperOf s c) (lowOf s b) (highOf s b) l (imageLow s g b c l)
+  pub high-met : (l : ℕ) → l < linksOf s
+      → IsMet (networkOf s) (limitOf s g) (lowerOf s c) (upperOf s c) (lowOf s b) (highOf s b) l (imageHigh s g b c l)
+
+abbrev pub ImageIsSmallest : Type 0
+ImageIsSmallest =
+    (s : List ℕ) → Screened s → (g b c : ℕ) → g < signalsOf s → b < boxesOf s → ImageOf s g b c
+
+-- hence every closed range of fractions p / q .. v / w that holds all next queues of link l holds its image
+abbrev pub AnyBoxHoldsImage : Type 0
+AnyBoxHoldsImage =
+    (s : List ℕ) → Screened s → (g b c l : ℕ) → g < signalsOf s → b < boxesOf s → l < linksOf s → (p q v w : ℕ)
+    → ((D : ℕ) (x a : ℕ → ℕ) → 1 ≤ D → InClosedCell s c D x → InBox s b D a
+    → (p * (10000 * D) ≤ next (networkOf s) (limitOf s g) D x a l * q)
+    × (next (networkOf s) (limitOf s g) D x a l * w ≤ v * (10000 * D)))
+    → (p * 10000 ≤ imageLow s g b c l * q) × (imageHigh s g b c l * w ≤ v * 10000)
+
+-- an exact point that lies in cell d, edges as stated, and in the closed image of cell c
+pub record PointIn (s : List ℕ) (g b c d : ℕ) : Type 0 where
+  pub scale : ℕ
+  pub point : ℕ → ℕ
+  pub scale-least : 1 ≤ scale
+  pub cell : InCell s d scale point
+  pub low : (l : ℕ) → l < linksOf s → scale * imageLow s g b c l ≤ 10000 * point l
+  pub high : (l : ℕ) → l < linksOf s → 10000 * point l ≤ scale * imageHigh s g b c l
+
+-- a cell is a successor exactly if some exact point lies in it and in the closed image
+abbrev pub SuccessorIsPoint : Type 0
+SuccessorIsPoint =
+    (s : List ℕ) → Screened s → (g b c d : ℕ) → g < signalsOf s → b < boxesOf s → d < cellsOf s
+    → (isSuccessor s g b c d ≡ true) ↔ PointIn s g b c d
+
+-- the step: from queues in cell c and arrivals in box b, the next queues' cell is a successor under that box
+abbrev pub StepsToSuccessor : Type 0
+StepsToSuccessor =
+    (s : List ℕ) → Screened s → (g b c d D : ℕ) (x a : ℕ → ℕ) → g < signalsOf s → b < boxesOf s → 1 ≤ D
+    → InCell s c D x → InBox s b D a → InCell s d (10000 * D) (next (networkOf s) (limitOf s g) D x a)
+    → isSuccessor s g b c d ≡ true

@@ -1,0 +1,1 @@
+// The grid of queue boxes: intervals, cell numbers, the image of a cell and its successors.

@@ -1,0 +1,10 @@
+-- The laws of the verdict, from one test up to the whole.
+pub mod Deciding
+pub mod Looping
+pub mod Entries
+pub mod Judged
+pub mod Screens
+pub mod Counting
+pub mod Stages
+pub mod Outcome
+pub mod Verdicts

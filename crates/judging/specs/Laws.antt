@@ -1,0 +1,109 @@
+-- What is proved of the verdict (proofs/ of this crate). Statements only.
+use Prim.Native.Nat.{ℕ, _+_, _*_, _≤_, _<_}
+use mathlib.Core.List.{List}
+use mathlib.Core.Logic.{_↔_}
+use mathlib.Core.Path.{_≡_}
+use lib.ListN.{take}
+use Rattle.certificate.specs.declared.Report.{Report}
+use Rattle.certificate.specs.Checks.{result}
+use Rattle.certificate.specs.Layout.{maxLength, linksOf, turnsOf, signalsOf, cellsOf, boxesOf, entriesOf, capOf, flowOf, fromOf, toOf, pullOf}
+use Rattle.certificate.specs.Reading.{readingOf}
+use Rattle.network.specs.Network.{networkOf, isGreen}
+use Rattle.network.specs.Conditions.{pullSum, roomOk, screeningOf}
+use Rattle.network.specs.Laws.{Screened}
+use Rattle.judging.specs.Verdict.{verdictOf}
+use Rattle.judging.specs.Conditions.{SafeCell, RankFits, Follows, ListedNext, LowerNext, SuccessorHolds, EntryHolds, lookedCells, lookedBoxes, lookedEntries, PlaceBefore}
+use mathlib.Core.Bool.{true, false}
+
+-- accepted exactly if the tests before 12 pass and every entry holds
+abbrev pub AcceptedIsPlain : Type 0
+AcceptedIsPlain =
+    (s : List ℕ) → (verdictOf s .number ≡ 0) ↔ (Screened s × ((e : ℕ) → e < entriesOf s → EntryHolds s e))
+
+-- an accepted certificate's result has no places, and its count is the number of successors looked up
+abbrev pub AcceptedCount : Type 0
+AcceptedCount = (s : List ℕ) → verdictOf s .number ≡ 0 → verdictOf s ≡ result 0 0 0 (lookedEntries s (entriesOf s))
+
+-- the count is at most entries × boxes × cells
+abbrev pub CountFits : Type 0
+CountFits = (s : List ℕ) → verdictOf s .count ≤ entriesOf s * boxesOf s * cellsOf s
+
+-- the numbers of a verdict are 0 to 15
+abbrev pub NumberFits : Type 0
+NumberFits = (s : List ℕ) → verdictOf s .number ≤ 15
+
+-- the verdict of a byte string is that of its first (greatest length + 1) bytes
+abbrev pub VerdictOfLong : Type 0
+VerdictOfLong = (s : List ℕ) → verdictOf s ≡ verdictOf (take (maxLength + 1) s)
+
+-- Refused with number and places exactly if that test fails and none before it in the stated order does: one law a stage.
+
+-- 1 to 9: reading refuses
+abbrev pub RefusedReading : Type 0
+RefusedReading =
+    (s : List ℕ) (r : Report) → (r .number ≡ 0 → ⊥) → r .number ≤ 9 → (verdictOf s ≡ r) ↔ (readingOf s ≡ r)
+
+-- 10: signal g and link l are the first, signals then links ascending, whose pull sum is above 10,000
+pub record PullTooHigh (s : List ℕ) (g l : ℕ) : Type 0 where
+  pub read : readingOf s .number ≡ 0
+  pub signal : g < signalsOf s
+  pub link : l < linksOf s
+  pub high : 10000 < pullSum (networkOf s) (isGreen s g) l
+  pub before : (h k : ℕ) → h < signalsOf s → k < linksOf s → PlaceBefore h k g l → pullSum (networkOf s) (isGreen s h) k ≤ 10000
+
+abbrev pub RefusedPull : Type 0
+RefusedPull =
+    (s : List ℕ) (g l n : ℕ) → (verdictOf s ≡ result 10 g l n) ↔ (PullTooHigh s g l × (n ≡ 0))
+
+-- 11: turn t is the first whose flow condition fails, and no pull sum is too high
+pub record RoomTooSmall (s : List ℕ) (t : ℕ) : Type 0 where
+  pub read : readingOf s .number ≡ 0
+  pub pulls : (h k : ℕ) → h < signalsOf s → k < linksOf s → pullSum (networkOf s) (isGreen s h) k ≤ 10000
+  pub turn : t < turnsOf s
+  pub small : roomOk s t ≡ false
+  pub before : (u : ℕ) → u < t → roomOk s u ≡ true
+
+abbrev pub RefusedRoom : Type 0
+RefusedRoom =
+    (s : List ℕ) (t b n : ℕ) → (verdictOf s ≡ result 11 t b n) ↔ (RoomTooSmall s t × (b ≡ 0) × (n ≡ 0))
+
+-- the tests before 12 pass, and so do all entries before e
+pub record Reaches (s : List ℕ) (e : ℕ) : Type 0 where
+  pub screened : Screened s
+  pub entry : e < entriesOf s
+  pub before : (f : ℕ) → f < e → EntryHolds s f
+
+-- 12: entry e is the first that fails a test, and its cell is not safe; the count is that of the entries before it
+abbrev pub RefusedUnsafe : Type 0
+RefusedUnsafe =
+    (s : List ℕ) (e b n : ℕ)
+    → (verdictOf s ≡ result 12 e b n) ↔ (Reaches s e × (SafeCell s e → ⊥) × (b ≡ 0) × (n ≡ lookedEntries s e))
+
+-- 13: its cell is safe, and its rank does not fit the goal
+abbrev pub RefusedRank : Type 0
+RefusedRank =
+    (s : List ℕ) (e b n : ℕ)
+    → (verdictOf s ≡ result 13 e b n) ↔ (Reaches s e × SafeCell s e × (RankFits s e → ⊥) × (b ≡ 0) × (n ≡ lookedEntries s e))
+
+-- entry e is reached and stands, and cell d under box k is its successor, looked up as the n-th; all successors before it hold
+pub record ReachesCell (s : List ℕ) (e d n : ℕ) : Type 0 where
+  pub reaches : Reaches s e
+  pub safe : SafeCell s e
+  pub rank : RankFits s e
+  pub box : ℕ
+  pub box-exists : box < boxesOf s
+  pub cell : d < cellsOf s
+  pub follows : Follows s e box d
+  pub earlier : (k c : ℕ) → k < boxesOf s → c < cellsOf s → PlaceBefore k c box d → Follows s e k c → SuccessorHolds s e c
+  pub count : n ≡ lookedEntries s e + lookedBoxes s e box + lookedCells s e box d + 1
+
+-- 14: that successor is not listed with the next mode
+abbrev pub RefusedUnlisted : Type 0
+RefusedUnlisted =
+    (s : List ℕ) (e d n : ℕ) → (verdictOf s ≡ result 14 e d n) ↔ (ReachesCell s e d n × (ListedNext s e d → ⊥))
+
+-- 15: it is listed, and its rank is not lower
+abbrev pub RefusedNotLower : Type 0
+RefusedNotLower =
+    (s : List ℕ) (e d n : ℕ)
+    → (verdictOf s ≡ result 15 e d n) ↔ (ReachesCell s e d n × ListedNext s e d × (LowerNext s e d → ⊥))

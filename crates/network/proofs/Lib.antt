@@ -1,0 +1,8 @@
+-- The laws of the flow rule, of the image of a box, and of the tests before 12.
+pub mod Sending
+pub mod Passing
+pub mod Monotone
+pub mod Scale
+pub mod Fits
+pub mod SmallestBox
+pub mod Screening

@@ -1,0 +1,84 @@
+-- What is proved of the flow rule and the image of a box (proofs/ of this crate). Statements only.
+use Prim.Native.Nat.{ℕ, _+_, _*_, _-_, _≤_, _<_}
+use mathlib.Core.List.{List}
+use mathlib.Core.Bool.{Bool}
+use mathlib.Core.Path.{_≡_}
+use mathlib.Core.Logic.{_↔_}
+use Rattle.certificate.specs.Facts.{Readable}
+use Rattle.certificate.specs.Layout.{linksOf, turnsOf, signalsOf, capOf, flowOf, fromOf, toOf, pullOf}
+use Rattle.network.specs.Network.{Network, networkOf, isGreen, limitOf}
+use Rattle.network.specs.Flow.{gross, next}
+use Rattle.network.specs.Conditions.{pullSum, screeningOf}
+use Rattle.network.specs.Image.{lowEnd, highEnd}
+use Rattle.network.specs.Sound.{Sound, Pushes, Within}
+
+-- Monotone (004, Theorem 1): what pushes link l higher leaves it at least as high, before the cut at cap and after it
+abbrev pub Monotone : Type 0
+Monotone =
+    (N : Network) (green : ℕ → Bool) (limit : ℕ → ℕ) → Sound N green limit → (D l : ℕ) → l < N .links
+    → (x y a b : ℕ → ℕ) → Pushes N l x y → a l ≤ b l
+    → (gross N limit D x a l ≤ gross N limit D y b l) × (next N limit D x a l ≤ next N limit D y b l)
+
+-- the rule does not depend on the scale chosen: over k times the scale the next queues are k times as large
+abbrev pub ScaleFree : Type 0
+ScaleFree =
+    (N : Network) (limit : ℕ → ℕ) (k D : ℕ) (x a : ℕ → ℕ) (l : ℕ)
+    → (gross N limit (k * D) (λ j. k * x j) (λ j. k * a j) l ≡ k * gross N limit D x a l)
+    × (next N limit (k * D) (λ j. k * x j) (λ j. k * a j) l ≡ k * next N limit D x a l)
+
+-- the next queue never exceeds cap
+abbrev pub NextFits : Type 0
+NextFits = (N : Network) (limit : ℕ → ℕ) (D : ℕ) (x a : ℕ → ℕ) (l : ℕ) → next N limit D x a l ≤ 10000 * (D * N .cap l)
+
+-- with no arrivals it would not even without the cut
+abbrev pub GrossFits : Type 0
+GrossFits =
+    (N : Network) (green : ℕ → Bool) (limit : ℕ → ℕ) → Sound N green limit → (D : ℕ) (x : ℕ → ℕ) (l : ℕ) → l < N .links
+    → x l ≤ D * N .cap l → gross N limit D x (λ _. 0) l ≤ 10000 * (D * N .cap l)
+
+-- Smallest box, first half: over every scale, all next queues from the closed box lie between the ends
+abbrev pub Encloses : Type 0
+Encloses =
+    (N : Network) (green : ℕ → Bool) (limit : ℕ → ℕ) → Sound N green limit
+    → (lower upper low high : ℕ → ℕ) (D : ℕ) (x a : ℕ → ℕ)
+    → Within (N .links) lower upper D x → Within (N .links) low high D a → (l : ℕ) → l < N .links
+    → (D * lowEnd N limit lower upper low l ≤ next N limit D x a l) × (next N limit D x a l ≤ D * highEnd N limit lower upper high l)
+
+-- some queues of the closed box and some arrivals of the arrival box, at scale 1, whose next queue on link l is v
+abbrev pub IsMet : Network → (ℕ → ℕ) → (ℕ → ℕ) → (ℕ → ℕ) → (ℕ → ℕ) → (ℕ → ℕ) → ℕ → ℕ → Type 0
+IsMet N limit lower upper low high l v =
+    (x : ℕ → ℕ) × (a : ℕ → ℕ) × Within (N .links) lower upper 1 x × Within (N .links) low high 1 a × (next N limit 1 x a l ≡ v)
+
+-- second half: each end is met
+abbrev pub EndsMet : Type 0
+EndsMet =
+    (N : Network) (limit lower upper low high : ℕ → ℕ)
+    → ((k : ℕ) → k < N .links → lower k ≤ upper k) → ((k : ℕ) → k < N .links → low k ≤ high k) → (l : ℕ)
+    → IsMet N limit lower upper low high l (lowEnd N limit lower upper low l)
+    × IsMet N limit lower upper low high l (highEnd N limit lower upper high l)
+
+-- over every scale D, P holds of each next queue of link l from the closed box and the arrival box
+abbrev pub EachNext : Network → (ℕ → ℕ) → (ℕ → ℕ) → (ℕ → ℕ) → (ℕ → ℕ) → (ℕ → ℕ) → ℕ → (ℕ → ℕ → Type 0) → Type 0
+EachNext N limit lower upper low high l P =
+    (D : ℕ) (x a : ℕ → ℕ) → 1 ≤ D → Within (N .links) lower upper D x → Within (N .links) low high D a → P D (next N limit D x a l)
+
+-- so every closed box that holds all next queues holds the image:
+-- a fraction p / q that is at most each next queue of link l is at most its low end, and one that is at least each is at least its high end
+abbrev pub Smallest : Type 0
+Smallest =
+    (N : Network) (limit lower upper low high : ℕ → ℕ)
+    → ((k : ℕ) → k < N .links → lower k ≤ upper k) → ((k : ℕ) → k < N .links → low k ≤ high k) → (l p q : ℕ)
+    → (EachNext N limit lower upper low high l (λ D v. p * (10000 * D) ≤ v * q) → p * 10000 ≤ lowEnd N limit lower upper low l * q)
+    × (EachNext N limit lower upper low high l (λ D v. v * q ≤ p * (10000 * D)) → highEnd N limit lower upper high l * q ≤ p * 10000)
+
+-- a certificate that passes the tests before 12 is readable, and under each signal its network is sound
+pub record Screened (s : List ℕ) : Type 0 where
+  pub readable : Readable s
+  pub pulls : (g l : ℕ) → g < signalsOf s → l < linksOf s → pullSum (networkOf s) (isGreen s g) l ≤ 10000
+  pub room : (t : ℕ) → t < turnsOf s → 100 * flowOf s (fromOf s t) ≤ pullOf s t * (capOf s (toOf s t) - flowOf s (toOf s t))
+
+abbrev pub ScreeningIsPlain : Type 0
+ScreeningIsPlain = (s : List ℕ) → (screeningOf s .number ≡ 0) ↔ Screened s
+
+abbrev pub ScreenedIsSound : Type 0
+ScreenedIsSound = (s : List ℕ) → Screened s → (g : ℕ) → g < signalsOf s → Sound (networkOf s) (isGreen s g) (limitOf s g)

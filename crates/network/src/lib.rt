@@ -1,0 +1,1 @@
+// The flow rule over a network, conditions 10 and 11, and the image of a box of queues.

@@ -1,0 +1,6 @@
+pub mod Fractions
+pub mod Cells
+pub mod Lookup
+pub mod Steps
+pub mod Moments
+pub mod RunClaim

@@ -1,0 +1,13 @@
+-- Demand 3: the run claim holds of every certificate whose verdict is 0. Assumes nothing.
+use Rattle.certificate.specs.Layout.{linksOf}
+use Rattle.judging.proofs.Verdicts.{accepted-is-plain}
+use Rattle.runs.specs.Laws.{RunTheorem}
+use Rattle.runs.proofs.Fractions.{scale-least}
+use Rattle.runs.proofs.Steps.{steady}
+use Rattle.runs.proofs.Moments.{kept}
+
+pub run-theorem : RunTheorem
+run-theorem s accepted mode queues steps e Q P F =
+    let plain = accepted-is-plain s .0 accepted in
+    let scale = scale-least queues (linksOf s) (Q .count) (Q .scales) in
+    kept s (steady s (plain .0) (plain .1)) (record { scale = scale; in-force = F; proper = P })

@@ -1,0 +1,105 @@
+-- What an entry in force gives at its moment, and what a step of a run keeps, where all entries hold. Assumes nothing.
+use Prim.Native.Nat.{ℕ, _*_, _≤_, _<_}
+use mathlib.Core.List.{List}
+use mathlib.Core.Bool.{true}
+use mathlib.Core.Path.{_≡_}
+use native.Mathlib.Nat.{mul-assoc, mul-comm, mul-pos, mul-le-mul-left}
+use native.Mathlib.Omega.{arith}
+use borrow.Author.Tests.{lt-ltb, le-leb}
+use lib.ListN.{length}
+use Rattle.certificate.specs.Layout.{linksOf, capOf, safeOf, goalOf, entriesOf, cellOf, signalOf, rankOf}
+use Rattle.certificate.proofs.Tests.{both-and}
+use Rattle.certificate.proofs.Loops.{each-every}
+use Rattle.network.specs.Network.{networkOf, limitOf}
+use Rattle.network.specs.Flow.{next}
+use Rattle.network.specs.Laws.{Screened}
+use Rattle.network.proofs.Fits.{next-fits}
+use Rattle.grid.specs.Cells.{InCell, cellAt}
+use Rattle.grid.specs.Laws.{InBox}
+use Rattle.grid.proofs.Intervals.{one-cell}
+use Rattle.grid.proofs.Successors.{steps-to-successor}
+use Rattle.judging.specs.Conditions.{EntryHolds}
+use Rattle.runs.specs.Fractions.{scaleOf}
+use Rattle.runs.specs.Runs.{RunState, Step, InForce, entryIn, hasEntry, commonScale, queuesOver, arrivalsOver, moved, stepped, GoalMet, Safe, ProperStep}
+use Rattle.runs.proofs.Fractions.{scale-least, keeps-low, keeps-high}
+use Rattle.runs.proofs.Cells.{below-bound, in-cell-times}
+use Rattle.runs.proofs.Lookup.{finds-entry}
+
+-- an entry in force at state r, whose rank is lower than that of entry e where that is above 0
+pub record Follower (s : List ℕ) (e : ℕ) (r : RunState) : Type 0 where
+  pub scale : 1 ≤ r .scale
+  pub entry : ℕ
+  pub in-force : InForce s r entry
+  pub lower : 0 < rankOf s e → rankOf s entry < rankOf s e
+
+-- what holds wherever an entry is in force: no queue exceeds safe, rank 0 is a visit, and a step leads to a follower
+pub record Steady (s : List ℕ) : Type 0 where
+  pub safe : (r : RunState) (e : ℕ) → InForce s r e → Safe s r
+  pub goal : (r : RunState) (e : ℕ) → InForce s r e → rankOf s e ≡ 0 → GoalMet s r
+  pub step : (r : RunState) (e : ℕ) (p : Step) → InForce s r e → 1 ≤ r .scale → ProperStep s p → Follower s e (stepped s r p)
+
+-- a step's arrivals have a scale of at least 1, and over the common scale they lie in its arrival box
+module _ (s : List ℕ) (p : Step) (P : ProperStep s p) where
+  arrivals-scale : 1 ≤ scaleOf (p .arrivals)
+  arrivals-scale = scale-least (p .arrivals) (linksOf s) (P .count) (P .scales)
+
+  in-box : (r : RunState) → InBox s (p .box) (commonScale r p) (arrivalsOver r p)
+  in-box r l lt =
+      let given : l < length (p .arrivals) = rw (P .count) lt in
+      let low = keeps-low (p .arrivals) l _ given (P .scales l lt) (P .low l lt) in
+      let high = keeps-high (p .arrivals) l _ given (P .scales l lt) (P .high l lt) in (
+        rw (mul-assoc, mul-comm (scaleOf (p .arrivals))) (mul-le-mul-left (r .scale) low),
+        rw (mul-assoc, mul-comm (scaleOf (p .arrivals))) (mul-le-mul-left (r .scale) high),
+      )
+
+module _ (s : List ℕ) (S : Screened s) (holds : (e : ℕ) → e < entriesOf s → EntryHolds s e) where
+  module _ (r : RunState) (e : ℕ) (p : Step) (F : InForce s r e) (pos : 1 ≤ r .scale) where
+    fits : (l : ℕ) → l < linksOf s → r .queue l ≤ r .scale * capOf s l
+    fits l lt = F .cell .holds l lt .cap
+
+    -- the lookup finds the entry in force, so the step goes by it
+    looks-up : entryIn s r ≡ e
+    looks-up =
+        let same = one-cell s (S .readable) (r .scale) (r .queue) pos fits .1 (cellOf s e) (F .cell) in
+        finds-entry s (S .readable) _ _ e (F .exists) same (F .mode)
+
+    has-entry : hasEntry s r ≡ true
+    unfolding hasEntry
+    has-entry =
+        let exists : entryIn s r < entriesOf s = rw looks-up (F .exists) in
+        both-and _ _ (each-every (linksOf s) _ (λ l lt. le-leb _ _ (fits l lt))) (lt-ltb _ _ exists)
+
+    moves : stepped s r p ≡ moved s r p e
+    unfolding stepped
+    moves = rw (has-entry, looks-up)
+
+    -- the next queues lie in a cell that is a successor, so it is listed for the next mode, and lower
+    follower : ProperStep s p → Follower s e (stepped s r p)
+    unfolding moved
+    follower P =
+        let D : ℕ = commonScale r p in
+        let over : 1 ≤ D = mul-pos pos (arrivals-scale s p P) in
+        let scale : 1 ≤ 10000 * D = omega arith in
+        let queue : ℕ → ℕ = next (networkOf s) (limitOf s (signalOf s e)) D (queuesOver r p) (arrivalsOver r p) in
+        let below : (l : ℕ) → l < linksOf s → queue l ≤ 10000 * D * capOf s l = λ l lt. rw mul-assoc (next-fits _ _ _ _ _ l) in
+        let cell : InCell s (cellAt s (10000 * D) queue) (10000 * D) queue = one-cell s (S .readable) _ queue scale below .0 in
+        let meets =
+        steps-to-successor s S (signalOf s e) (p .box) (cellOf s e) _ D (queuesOver r p) (arrivalsOver r p)
+        (S .readable .entry e (F .exists) .signal) (P .box) over (in-cell-times _ (arrivals-scale s p P) (F .cell)) (in-box s p P r) cell in
+        let successor = holds e (F .exists) .successors (p .box) _ (P .box) (cell .exists) meets in
+        let f = successor .0 .0 in
+        let lists = successor .0 .1 in
+        rw moves (record {
+          scale = scale;
+          entry = f;
+          in-force = record { exists = lists .exists; cell = rw (lists .cell) cell; mode = lists .mode };
+          lower = successor .1 f lists;
+        })
+
+  pub steady : Steady s
+  steady =
+      record {
+        safe = λ r e F. below-bound (F .cell) (safeOf s) (holds e (F .exists) .safe);
+        goal = λ r e F z. below-bound (F .cell) (goalOf s) (holds e (F .exists) .rank .0 z);
+        step = follower;
+      }

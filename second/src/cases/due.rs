@@ -1,0 +1,204 @@
+//! Reading a `.due` file.
+
+use super::stored::Numbered;
+use crate::report::Report;
+use crate::text::{Fault, Words};
+use std::fmt;
+
+/// What a call must answer.
+#[derive(Clone, Debug, PartialEq, Eq)]
+pub enum Due {
+    Load {
+        report: Report,
+        mode: u8,
+        length: usize,
+    },
+    Query {
+        report: Report,
+        signal: u8,
+        green: u8,
+        mode: u8,
+    },
+    Write {
+        report: Report,
+        /// The certificate that the buffer holds and where it starts; none if the buffer is kept.
+        holds: Option<(String, usize)>,
+    },
+    List {
+        text: String,
+    },
+}
+
+/// A case and its due results.
+pub struct DueCase {
+    pub name: String,
+    pub line: usize,
+    pub results: Vec<Numbered<Due>>,
+}
+
+/// Reads one file.
+pub fn read_due(text: &str) -> Result<Vec<DueCase>, Fault> {
+    let mut cases: Vec<DueCase> = Vec::new();
+    for (index, raw) in text.lines().enumerate() {
+        let line = index + 1;
+        let words = Words::of(raw);
+        let result = match raw.trim_start().strip_prefix('|') {
+            Some(listed) => add_listed(&mut cases, listed),
+            None if words.peek().is_some() => add_line(&mut cases, line, words),
+            None => Ok(()),
+        };
+        result.map_err(|what| Fault::new(line, what))?;
+    }
+    Ok(cases)
+}
+
+/// A line of a listing, which stands behind `| `.
+fn add_listed(cases: &mut [DueCase], listed: &str) -> Result<(), String> {
+    let last = cases.last_mut().and_then(|case| case.results.last_mut());
+    match (
+        last.map(|result| &mut result.said),
+        listed.strip_prefix(' '),
+    ) {
+        (Some(Due::List { text }), Some(listed)) => {
+            *text += &format!("{listed}\n");
+            Ok(())
+        }
+        (Some(Due::List { .. }), None) => Err("expected `| ` before a listed line".to_string()),
+        _ => Err("expected a `list` line before listed lines".to_string()),
+    }
+}
+
+/// A `case` line, or the result of a call.
+fn add_line(cases: &mut Vec<DueCase>, line: usize, mut words: Words) -> Result<(), String> {
+    let text = words.text();
+    if words.takes("case") {
+        let name = words.take("a name")?.to_string();
+        let results = Vec::new();
+        cases.push(DueCase {
+            name,
+            line,
+            results,
+        });
+        return words.must_end();
+    }
+    let Some(case) = cases.last_mut() else {
+        return words.wrong("`case`");
+    };
+    let said = read_result(&mut words)?;
+    case.results.push(Numbered { line, text, said });
+    Ok(())
+}
+
+/// Reads the result of one call; listed lines follow on lines of their own.
+fn read_result(words: &mut Words) -> Result<Due, String> {
+    let due = if words.takes("load") {
+        read_load(words)?
+    } else if words.takes("query") {
+        read_query(words)?
+    } else if words.takes("write") {
+        read_write(words)?
+    } else if words.takes("list") {
+        let text = String::new();
+        Due::List { text }
+    } else {
+        return words.wrong("`case`, `load`, `query`, `write` or `list`");
+    };
+    words.must_end()?;
+    Ok(due)
+}
+
+fn read_load(words: &mut Words) -> Result<Due, String> {
+    let report = read_report(words)?;
+    let mode = read_byte(words, "mode")?;
+    let length = read_size(words, "length")?;
+    Ok(Due::Load {
+        report,
+        mode,
+        length,
+    })
+}
+
+fn read_query(words: &mut Words) -> Result<Due, String> {
+    let report = read_report(words)?;
+    let signal = read_byte(words, "signal")?;
+    words.must_take("green")?;
+    let green = words.byte()?;
+    let mode = read_byte(words, "mode")?;
+    Ok(Due::Query {
+        report,
+        signal,
+        green,
+        mode,
+    })
+}
+
+fn read_write(words: &mut Words) -> Result<Due, String> {
+    let report = read_report(words)?;
+    let mut holds = None;
+    if words.takes("holds") {
+        let name = words.take("the name of a certificate")?.to_string();
+        holds = Some((name, read_size(words, "from")?));
+    } else if !words.takes("kept") {
+        return words.wrong("`holds` or `kept`");
+    }
+    Ok(Due::Write { report, holds })
+}
+
+fn read_report(words: &mut Words) -> Result<Report, String> {
+    Ok(Report {
+        number: words.number("the result's number", 19)? as u32,
+        a: words.number("place A", u64::MAX)?,
+        b: words.number("place B", u64::MAX)?,
+        count: words.number("the count", u64::MAX)?,
+    })
+}
+
+/// A name and the number of one byte.
+fn read_byte(words: &mut Words, name: &str) -> Result<u8, String> {
+    words.must_take(name)?;
+    Ok(words.number(name, 255)? as u8)
+}
+
+/// A name and a number of bytes.
+fn read_size(words: &mut Words, name: &str) -> Result<usize, String> {
+    words.must_take(name)?;
+    Ok(words.number(name, usize::MAX as u64)? as usize)
+}
+
+impl Due {
+    /// The word under which it stands.
+    pub fn word(&self) -> &'static str {
+        match self {
+            Due::Load { .. } => "load",
+            Due::Query { .. } => "query",
+            Due::Write { .. } => "write",
+            Due::List { .. } => "list",
+        }
+    }
+}
+
+impl fmt::Display for Due {
+    fn fmt(&self, out: &mut fmt::Formatter<'_>) -> fmt::Result {
+        match self {
+            Due::Load {
+                report,
+                mode,
+                length,
+            } => write!(out, "load {report} mode {mode} length {length}"),
+            Due::Query {
+                report,
+                signal,
+                green,
+                mode,
+            } => write!(
+                out,
+                "query {report} signal {signal} green {green:02X} mode {mode}"
+            ),
+            Due::Write { report, holds } => match holds {
+                Some((name, start)) => write!(out, "write {report} holds {name} from {start}"),
+                None => write!(out, "write {report} kept"),
+            },
+            Due::List { text } => write!(out, "list {text:?}"),
+        }
+    }
+}

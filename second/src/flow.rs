@@ -1,0 +1,50 @@
+//! The flow rule, in whole numbers over a scale.
+
+use crate::certificate::{is_green, Certificate, MOST_LINKS};
+
+/// The next queues stand over this many times the scale of the queues.
+pub const FINER: i128 = 10_000;
+
+/// One whole number a link over a common scale; places of absent links are 0.
+pub type Amounts = [i128; MOST_LINKS];
+
+/// What each link sends, over 100 × scale.
+fn sent(certificate: &Certificate, green: u8, queues: &Amounts, scale: i128) -> Amounts {
+    let mut sent = [0; MOST_LINKS];
+    for (number, link) in certificate.links.iter().enumerate() {
+        if is_green(green, number) {
+            sent[number] = 100 * queues[number].min(i128::from(link.flow) * scale);
+        }
+    }
+    for turn in &certificate.turns {
+        if is_green(green, turn.from) {
+            let cap = i128::from(certificate.links[turn.to].cap) * scale;
+            let supply = i128::from(turn.pull) * (cap - queues[turn.to]);
+            sent[turn.from] = sent[turn.from].min(supply);
+        }
+    }
+    sent
+}
+
+/// One step: the next queues over `FINER` × scale, from queues and arrivals over `scale`.
+/// No number overflows while queues are at most their caps, arrivals at most 10,000 and scale at most 10^24.
+pub fn next_queues(
+    certificate: &Certificate,
+    green: u8,
+    queues: &Amounts,
+    arrivals: &Amounts,
+    scale: i128,
+) -> Amounts {
+    let sent = sent(certificate, green, queues, scale);
+    let mut next = [0; MOST_LINKS];
+    for link in 0..certificate.links.len() {
+        next[link] = FINER * (queues[link] + arrivals[link]) - 100 * sent[link];
+    }
+    for turn in &certificate.turns {
+        next[turn.to] += i128::from(turn.share) * sent[turn.from];
+    }
+    for (number, link) in certificate.links.iter().enumerate() {
+        next[number] = next[number].min(FINER * i128::from(link.cap) * scale);
+    }
+    next
+}

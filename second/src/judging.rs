@@ -1,0 +1,92 @@
+//! Judging the entries of a certificate: refusals 12 to 15, and the count.
+
+use crate::certificate::{Certificate, Entry, Link};
+use crate::conditions::read_sound;
+use crate::grid::{cells, Cell, Interval};
+use crate::image::image;
+use crate::report::Report;
+
+/// Judges any bytes: 0 with the count, or the first refusal of 1 to 15.
+pub fn judge(bytes: &[u8]) -> Report {
+    match read_sound(bytes) {
+        Ok(certificate) => judge_entries(&certificate),
+        Err(refusal) => refusal,
+    }
+}
+
+/// Judges the entries of a certificate that has passed every test before 12.
+pub fn judge_entries(certificate: &Certificate) -> Report {
+    let cells = cells(certificate);
+    let judging = Judging {
+        certificate,
+        ranks: listed_ranks(certificate, cells.len()),
+        cells,
+    };
+    let mut count = 0;
+    for number in 0..certificate.entries.len() {
+        if let Err(refusal) = judging.entry(number, &mut count) {
+            return refusal.counting(count);
+        }
+    }
+    Report::SUCCESS.counting(count)
+}
+
+/// The rank of each listed pair, by cell and then mode.
+fn listed_ranks(certificate: &Certificate, cells: usize) -> Vec<Vec<Option<u16>>> {
+    let none = vec![None; certificate.modes.into()];
+    let mut ranks = vec![none; cells];
+    for entry in &certificate.entries {
+        ranks[usize::from(entry.cell)][usize::from(entry.mode)] = Some(entry.rank);
+    }
+    ranks
+}
+
+/// Do all upper edges of the cell keep to a limit of their links?
+fn upper_edges_within(cell: &[Interval], links: &[Link], limit: fn(&Link) -> u16) -> bool {
+    cell.iter()
+        .zip(links)
+        .all(|(interval, link)| interval.high <= limit(link))
+}
+
+struct Judging<'a> {
+    certificate: &'a Certificate,
+    cells: Vec<Cell>,
+    ranks: Vec<Vec<Option<u16>>>,
+}
+
+impl Judging<'_> {
+    /// Judges one entry whole: safe, rank against goal, then its successors.
+    fn entry(&self, number: usize, count: &mut u64) -> Result<(), Report> {
+        let entry = &self.certificate.entries[number];
+        let links = &self.certificate.links;
+        let cell = &self.cells[usize::from(entry.cell)];
+        if !upper_edges_within(cell, links, |link| link.safe) {
+            return Err(Report::at(12, number));
+        }
+        let in_goal = upper_edges_within(cell, links, |link| link.goal);
+        if (entry.rank == 0) != in_goal {
+            return Err(Report::at(13, number));
+        }
+        let green = self.certificate.signals[usize::from(entry.signal)];
+        for arrivals in &self.certificate.arrivals {
+            let image = image(self.certificate, green, cell, arrivals);
+            for (successor, other) in self.cells.iter().enumerate() {
+                if image.meets(other) {
+                    *count += 1;
+                    self.successor(entry, successor)
+                        .map_err(|refusal| Report::at(refusal, number).and(successor))?;
+                }
+            }
+        }
+        Ok(())
+    }
+
+    /// Looks one successor up: listed with the next mode, then lower in rank unless the entry has rank 0.
+    fn successor(&self, entry: &Entry, successor: usize) -> Result<(), u32> {
+        match self.ranks[successor][usize::from(entry.next)] {
+            None => Err(14),
+            Some(rank) if entry.rank > 0 && rank >= entry.rank => Err(15),
+            Some(_) => Ok(()),
+        }
+    }
+}

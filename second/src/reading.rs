@@ -1,0 +1,239 @@
+//! Reading a certificate from bytes: refusals 1 to 9.
+
+use crate::certificate::{Arrival, Certificate, Entry, Link, Turn, MOST_AMOUNT, MOST_CELLS};
+use crate::report::Report;
+
+/// Bytes, and the offset of the next record.
+struct Reader<'a> {
+    bytes: &'a [u8],
+    offset: usize,
+}
+
+impl<'a> Reader<'a> {
+    /// Takes `size` bytes for the record that starts at `start`.
+    fn take(&mut self, start: usize, size: usize) -> Result<&'a [u8], Report> {
+        let left = &self.bytes[self.offset..];
+        if left.len() < size {
+            return Err(Report::at(1, start));
+        }
+        self.offset += size;
+        Ok(&left[..size])
+    }
+
+    /// Takes a record: mark present, mark right, record whole. `size` counts the bytes after the mark.
+    fn record(&mut self, mark: &[u8; 2], size: usize) -> Result<Record<'a>, Report> {
+        let offset = self.offset;
+        if self.take(offset, 2)? != mark {
+            return Err(Report::at(2, offset));
+        }
+        let fields = self.take(offset, size)?;
+        Ok(Record { offset, fields })
+    }
+}
+
+/// A record that is present: the offset of its mark, and the bytes after the mark.
+struct Record<'a> {
+    offset: usize,
+    fields: &'a [u8],
+}
+
+impl Record<'_> {
+    fn byte(&self, at: usize) -> u8 {
+        self.fields[at]
+    }
+
+    fn wide(&self, at: usize) -> u16 {
+        wide(self.fields, at)
+    }
+
+    /// Refusal `number` at this record unless its line holds.
+    fn must(&self, number: u32, line_holds: bool) -> Result<(), Report> {
+        if line_holds {
+            Ok(())
+        } else {
+            Err(Report::at(number, self.offset))
+        }
+    }
+}
+
+/// A two-byte number, high byte first.
+fn wide(bytes: &[u8], at: usize) -> u16 {
+    u16::from_be_bytes([bytes[at], bytes[at + 1]])
+}
+
+/// Counts of HD.
+struct Header {
+    links: usize,
+    turns: usize,
+    signals: usize,
+    modes: u8,
+    arrivals: usize,
+    entries: usize,
+}
+
+/// Reads a whole certificate, or tells the first refusal.
+pub fn read(bytes: &[u8]) -> Result<Certificate, Report> {
+    let mut reader = Reader { bytes, offset: 0 };
+    let header = read_header(&mut reader)?;
+    let mut certificate = Certificate {
+        links: Vec::new(),
+        turns: Vec::new(),
+        signals: Vec::new(),
+        modes: header.modes,
+        cuts: Vec::new(),
+        arrivals: Vec::new(),
+        entries: Vec::new(),
+    };
+    for _ in 0..header.links {
+        certificate.links.push(read_link(&mut reader)?);
+    }
+    for _ in 0..header.turns {
+        let turn = read_turn(&mut reader, &certificate)?;
+        certificate.turns.push(turn);
+    }
+    for _ in 0..header.signals {
+        let green = read_signal(&mut reader, header.links)?;
+        certificate.signals.push(green);
+    }
+    let mut cells = 1;
+    for link in 0..header.links {
+        let cuts = read_grid(&mut reader, certificate.links[link].cap, &mut cells)?;
+        certificate.cuts.push(cuts);
+    }
+    for _ in 0..header.arrivals {
+        let arrivals = read_arrivals(&mut reader, header.links)?;
+        certificate.arrivals.push(arrivals);
+    }
+    for _ in 0..header.entries {
+        let entry = read_entry(&mut reader, &certificate, cells)?;
+        certificate.entries.push(entry);
+    }
+    read_end(&mut reader)?;
+    Ok(certificate)
+}
+
+fn read_header(reader: &mut Reader) -> Result<Header, Report> {
+    let record = reader.record(b"HD", 7)?;
+    let header = Header {
+        links: record.byte(0).into(),
+        turns: record.byte(1).into(),
+        signals: record.byte(2).into(),
+        modes: record.byte(3),
+        arrivals: record.byte(4).into(),
+        entries: record.wide(5).into(),
+    };
+    record.must(3, (1..=8).contains(&header.links))?;
+    record.must(3, header.turns <= 32)?;
+    record.must(3, (1..=16).contains(&header.signals))?;
+    record.must(3, (1..=8).contains(&header.modes))?;
+    record.must(3, (1..=8).contains(&header.arrivals))?;
+    record.must(3, (1..=4_096).contains(&header.entries))?;
+    Ok(header)
+}
+
+fn read_link(reader: &mut Reader) -> Result<Link, Report> {
+    let record = reader.record(b"LK", 10)?;
+    let link = Link {
+        tail: record.byte(0),
+        head: record.byte(1),
+        cap: record.wide(2),
+        flow: record.wide(4),
+        safe: record.wide(6),
+        goal: record.wide(8),
+    };
+    record.must(4, link.head >= 1 && link.head != link.tail)?;
+    record.must(4, (1..=MOST_AMOUNT).contains(&link.cap))?;
+    record.must(4, (1..=link.cap).contains(&link.flow))?;
+    record.must(4, link.safe <= link.cap)?;
+    record.must(4, link.goal <= link.safe)?;
+    Ok(link)
+}
+
+/// Reads a turn; the certificate holds the links and the turns before it.
+fn read_turn(reader: &mut Reader, certificate: &Certificate) -> Result<Turn, Report> {
+    let record = reader.record(b"TN", 5)?;
+    let turn = Turn {
+        from: record.byte(0).into(),
+        to: record.byte(1).into(),
+        share: record.byte(2),
+        pull: record.wide(3),
+    };
+    let links = &certificate.links;
+    record.must(5, turn.from < links.len() && turn.to < links.len())?;
+    record.must(5, links[turn.from].head == links[turn.to].tail)?;
+    record.must(5, (1..=100).contains(&turn.share))?;
+    record.must(5, (1..=MOST_AMOUNT).contains(&turn.pull))?;
+    if let Some(before) = certificate.turns.last() {
+        record.must(5, (before.from, before.to) < (turn.from, turn.to))?;
+    }
+    let earlier = certificate.turns.iter().filter(|t| t.from == turn.from);
+    let total: u32 = earlier.map(|t| u32::from(t.share)).sum::<u32>() + u32::from(turn.share);
+    record.must(5, total <= 100)?;
+    Ok(turn)
+}
+
+fn read_signal(reader: &mut Reader, links: usize) -> Result<u8, Report> {
+    let record = reader.record(b"SG", 1)?;
+    let green = record.byte(0);
+    record.must(6, u32::from(green) < 1 << links)?;
+    Ok(green)
+}
+
+/// Reads the cuts of one link. `cells` is the product of the counts so far.
+fn read_grid(reader: &mut Reader, cap: u16, cells: &mut usize) -> Result<Vec<u16>, Report> {
+    let record = reader.record(b"GR", 1)?;
+    let count = usize::from(record.byte(0));
+    record.must(7, (1..=15).contains(&count))?;
+    record.must(7, *cells * count <= MOST_CELLS)?;
+    *cells *= count;
+    let bytes = reader.take(record.offset, 2 * (count - 1))?;
+    let cuts: Vec<u16> = (0..count - 1).map(|cut| wide(bytes, 2 * cut)).collect();
+    record.must(7, cuts.iter().all(|cut| (1..cap).contains(cut)))?;
+    record.must(7, cuts.windows(2).all(|pair| pair[0] < pair[1]))?;
+    Ok(cuts)
+}
+
+fn read_arrivals(reader: &mut Reader, links: usize) -> Result<Vec<Arrival>, Report> {
+    let record = reader.record(b"AR", 4 * links)?;
+    let mut arrivals = Vec::new();
+    for link in 0..links {
+        let low = record.wide(4 * link);
+        let high = record.wide(4 * link + 2);
+        record.must(8, low <= high && high <= MOST_AMOUNT)?;
+        arrivals.push(Arrival { low, high });
+    }
+    Ok(arrivals)
+}
+
+/// Reads an entry; the certificate holds the entries before it.
+fn read_entry(
+    reader: &mut Reader,
+    certificate: &Certificate,
+    cells: usize,
+) -> Result<Entry, Report> {
+    let record = reader.record(b"EN", 7)?;
+    let entry = Entry {
+        cell: record.wide(0),
+        mode: record.byte(2),
+        signal: record.byte(3),
+        next: record.byte(4),
+        rank: record.wide(5),
+    };
+    record.must(9, usize::from(entry.cell) < cells)?;
+    record.must(9, entry.mode < certificate.modes)?;
+    record.must(9, usize::from(entry.signal) < certificate.signals.len())?;
+    record.must(9, entry.next < certificate.modes)?;
+    if let Some(before) = certificate.entries.last() {
+        record.must(9, (before.cell, before.mode) < (entry.cell, entry.mode))?;
+    }
+    Ok(entry)
+}
+
+/// ZZ, and nothing after it.
+fn read_end(reader: &mut Reader) -> Result<(), Report> {
+    reader.record(b"ZZ", 0)?;
+    if reader.offset < reader.bytes.len() {
+        return Err(Report::at(2, reader.offset));
+    }
+    Ok(())
+}

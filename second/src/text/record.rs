@@ -1,0 +1,69 @@
+//! One record as a line writes it.
+
+use super::field::{Field, ENTRY, HEADER, LINK, TURN};
+
+/// Numbers fit their fields; nothing else is known of them.
+#[derive(Clone, Debug, PartialEq, Eq)]
+pub enum Record {
+    /// Counts that are not given are taken from the other records.
+    Header([Option<u16>; 6]),
+    Link([u16; 6]),
+    Turn([u16; 4]),
+    Signal(u8),
+    Grid {
+        count: u8,
+        cuts: Vec<u16>,
+    },
+    /// Low and high of each link.
+    Arrivals(Vec<[u16; 2]>),
+    Entry([u16; 5]),
+    End,
+    /// Bytes as they stand, no record.
+    Bytes(Vec<u8>),
+}
+
+impl Record {
+    /// The first word of its line.
+    pub fn kind(&self) -> &'static str {
+        match self {
+            Record::Header(_) => "header",
+            Record::Link(_) => "link",
+            Record::Turn(_) => "turn",
+            Record::Signal(_) => "signal",
+            Record::Grid { .. } => "grid",
+            Record::Arrivals(_) => "arrivals",
+            Record::Entry(_) => "entry",
+            Record::End => "end",
+            Record::Bytes(_) => "bytes",
+        }
+    }
+
+    /// Adds its bytes; `counts` are the six of HD.
+    pub fn put(&self, counts: &[u16; 6], bytes: &mut Vec<u8>) {
+        match self {
+            Record::Header(_) => put_fields(b"HD", &HEADER, counts, bytes),
+            Record::Link(values) => put_fields(b"LK", &LINK, values, bytes),
+            Record::Turn(values) => put_fields(b"TN", &TURN, values, bytes),
+            Record::Signal(green) => bytes.extend([b'S', b'G', *green]),
+            Record::Grid { count, cuts } => {
+                bytes.extend([b'G', b'R', *count]);
+                cuts.iter().for_each(|cut| bytes.extend(cut.to_be_bytes()));
+            }
+            Record::Arrivals(pairs) => {
+                bytes.extend(b"AR");
+                let ends = pairs.iter().flatten();
+                ends.for_each(|end| bytes.extend(end.to_be_bytes()));
+            }
+            Record::Entry(values) => put_fields(b"EN", &ENTRY, values, bytes),
+            Record::End => bytes.extend(b"ZZ"),
+            Record::Bytes(own) => bytes.extend(own),
+        }
+    }
+}
+
+fn put_fields(mark: &[u8; 2], fields: &[Field], values: &[u16], bytes: &mut Vec<u8>) {
+    bytes.extend(mark);
+    for (field, &value) in fields.iter().zip(values) {
+        field.put(value, bytes);
+    }
+}

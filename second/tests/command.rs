@@ -1,0 +1,87 @@
+//! The commands, as a user runs them.
+
+mod common;
+
+use common::{L, L_TEXT};
+use std::io::Write;
+use std::process::{Command, Output, Stdio};
+
+/// Runs a command with this standard input.
+fn second(words: &[&str], input: &[u8]) -> Output {
+    let mut child = Command::new(env!("CARGO_BIN_EXE_second"))
+        .args(words)
+        .stdin(Stdio::piped())
+        .stdout(Stdio::piped())
+        .stderr(Stdio::piped())
+        .spawn()
+        .unwrap();
+    // A command that does not read its input may have ended already.
+    let _ = child.stdin.take().unwrap().write_all(input);
+    child.wait_with_output().unwrap()
+}
+
+fn ends(words: &[&str], input: &[u8], code: i32, out: &[u8], error: &str) {
+    let output = second(words, input);
+    assert_eq!(output.status.code(), Some(code), "{words:?}");
+    assert_eq!(output.stdout, out, "{words:?}");
+    assert_eq!(String::from_utf8_lossy(&output.stderr), error, "{words:?}");
+}
+
+#[test]
+fn list() {
+    let whole = "\
+links 1 turns 0 signals 1 modes 1 arrivals 1 entries 3
+0 0 0 0 0
+1 0 0 0 1
+2 0 0 0 2
+accepted 4
+";
+    ends(&["list", "-"], &L, 0, whole.as_bytes(), "");
+    ends(&["list", "-"], &L[..65], 1, b"refused 1 64 0 0\n", "");
+    let absent = second(&["list", "no/such/file"], b"");
+    assert_eq!(absent.status.code(), Some(2));
+    assert!(absent.stdout.is_empty());
+    assert!(String::from_utf8_lossy(&absent.stderr).starts_with("no/such/file: cannot be read: "));
+}
+
+#[test]
+fn encode_and_decode() {
+    ends(&["encode", "-"], L_TEXT.as_bytes(), 0, &L, "");
+    let header = "header links 1 turns 0 signals 1 modes 1 arrivals 1 entries 3\n";
+    let text = format!("{header}{L_TEXT}");
+    ends(&["decode", "-"], &L, 0, text.as_bytes(), "");
+    ends(&["decode", "-"], &L[..9], 1, b"", "-: refused 1 9 0 0\n");
+    ends(
+        &["encode", "-"],
+        b"grid\nlink\nend",
+        1,
+        b"",
+        "-:2: expected `tail`, found the end of the line\n",
+    );
+    ends(
+        &["encode", "-"],
+        b"end\n\xFF",
+        1,
+        b"",
+        "-:2: expected text in UTF-8\n",
+    );
+}
+
+#[test]
+fn cases() {
+    let data = concat!(env!("CARGO_MANIFEST_DIR"), "/tests/data");
+    let last = b"24 of 24 calls in 3 cases agreed\n";
+    ends(&["cases", data], b"", 0, last, "");
+    let sources = concat!(env!("CARGO_MANIFEST_DIR"), "/src");
+    let none = format!("{sources}: no case was found\n");
+    ends(&["cases", sources], b"", 1, b"", &none);
+}
+
+#[test]
+fn usage() {
+    for words in [&[][..], &["list"], &["judge", "-"], &["list", "-", "-"]] {
+        let output = second(words, b"");
+        assert_eq!(output.status.code(), Some(2));
+        assert!(output.stderr.starts_with(b"usage: second list FILE"));
+    }
+}

@@ -1,0 +1,71 @@
+//! Certificates that several tests use.
+#![allow(dead_code)]
+
+use second::text::encode;
+
+/// Document 01's L, byte for byte.
+pub const L: [u8; 66] = [
+    0x48, 0x44, 0x01, 0x00, 0x01, 0x01, 0x01, 0x00, 0x03, // HD
+    0x4C, 0x4B, 0x00, 0x01, 0x00, 0x0A, 0x00, 0x06, 0x00, 0x0A, 0x00, 0x05, // LK
+    0x53, 0x47, 0x01, // SG
+    0x47, 0x52, 0x03, 0x00, 0x05, 0x00, 0x08, // GR
+    0x41, 0x52, 0x00, 0x00, 0x00, 0x02, // AR
+    0x45, 0x4E, 0x00, 0x00, 0x00, 0x00, 0x00, 0x00, 0x00, // EN
+    0x45, 0x4E, 0x00, 0x01, 0x00, 0x00, 0x00, 0x00, 0x01, // EN
+    0x45, 0x4E, 0x00, 0x02, 0x00, 0x00, 0x00, 0x00, 0x02, // EN
+    0x5A, 0x5A, // ZZ
+];
+
+/// L as text.
+pub const L_TEXT: &str = "\
+link tail 0 head 1 cap 10 flow 6 safe 10 goal 5
+signal green 0
+grid 5 8
+arrivals 0-2
+entry cell 0 mode 0 signal 0 next 0 rank 0
+entry cell 1 mode 0 signal 0 next 0 rank 1
+entry cell 2 mode 0 signal 0 next 0 rank 2
+end
+";
+
+/// Three links, two turns, two signals, two modes and two arrival boxes.
+/// In mode 0 link 0 drains into links 1 and 2; in mode 1 those drain. Everything is goal, so ranks are 0.
+pub const CROSSING: &str = "\
+link tail 0 head 1 cap 40 flow 10 safe 40 goal 40
+link tail 1 head 2 cap 40 flow 10 safe 40 goal 40
+link tail 1 head 3 cap 40 flow 10 safe 40 goal 40
+turn from 0 to 1 share 50 pull 34
+turn from 0 to 2 share 40 pull 40
+signal green 0
+signal green 1 2
+grid 10 25
+grid 20
+grid
+arrivals 0-3 0-0 0-1
+arrivals 2-4 1-1 0-0
+entry cell 0..5 mode 0 signal 0 next 1 rank 0
+end
+";
+
+pub fn bytes(text: &str) -> Vec<u8> {
+    encode(text).unwrap_or_else(|fault| panic!("line {fault}"))
+}
+
+/// The crossing with its entries: every cell in both modes.
+pub fn crossing() -> Vec<u8> {
+    let mut entries = String::new();
+    for cell in 0..6 {
+        for mode in 0..2 {
+            let next = 1 - mode;
+            entries += &format!("entry cell {cell} mode {mode} signal {mode} next {next} rank 0\n");
+        }
+    }
+    let one = "entry cell 0..5 mode 0 signal 0 next 1 rank 0\n";
+    bytes(&CROSSING.replace(one, &entries))
+}
+
+/// L with one part of its text changed.
+pub fn l_with(old: &str, new: &str) -> Vec<u8> {
+    assert!(L_TEXT.contains(old), "L has no `{old}`");
+    bytes(&L_TEXT.replace(old, new))
+}

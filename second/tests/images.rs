@@ -1,0 +1,180 @@
+//! Images against sampled steps, and large certificates.
+
+mod common;
+
+use common::bytes;
+use second::certificate::is_green;
+use second::conditions::read_sound;
+use second::flow::{next_queues, Amounts, FINER};
+use second::grid::{cells, Interval};
+use second::image::image;
+use second::{judge, Certificate, Report};
+
+/// A plain row of numbers that look random, the same in every run.
+struct Numbers(u64);
+
+impl Numbers {
+    /// From `low` to `high`, both included.
+    fn between(&mut self, low: u64, high: u64) -> u64 {
+        self.0 = self.0.wrapping_mul(6364136223846793005);
+        self.0 = self.0.wrapping_add(1442695040888963407);
+        low + (self.0 >> 33) % (high - low + 1)
+    }
+}
+
+/// A small network of junctions 1 to 3 with random links, turns, signals and cuts.
+fn network(numbers: &mut Numbers) -> String {
+    let count = numbers.between(2, 5);
+    let mut ends = Vec::new();
+    let mut text = String::new();
+    for _ in 0..count {
+        let tail = numbers.between(0, 3);
+        let head = 1 + (tail + numbers.between(0, 1)) % 3;
+        let cap = numbers.between(10, 40);
+        let flow = numbers.between(1, 6);
+        ends.push((tail, head));
+        text += &format!("link tail {tail} head {head} cap {cap} flow {flow} safe {cap} goal 0\n");
+    }
+    for from in 0..ends.len() {
+        for to in 0..ends.len() {
+            if ends[from].1 == ends[to].0 && numbers.between(0, 3) > 0 {
+                let share = numbers.between(1, 33);
+                let pull = numbers.between(20, 250);
+                text += &format!("turn from {from} to {to} share {share} pull {pull}\n");
+            }
+        }
+    }
+    text += &format!("signal byte {:02X}\n", numbers.between(0, (1 << count) - 1));
+    for _ in 0..count {
+        let first = numbers.between(1, 4);
+        text += &format!("grid {first} {}\n", first + numbers.between(1, 4));
+    }
+    let lows = (0..count)
+        .map(|_| numbers.between(0, 2))
+        .collect::<Vec<_>>();
+    let pairs = lows.iter().map(|low| format!(" {low}-{}", low + 1));
+    text += &format!("arrivals{}\n", pairs.collect::<String>());
+    text + "entry cell 0 mode 0 signal 0 next 0 rank 0\nend\n"
+}
+
+/// A point of each range, over `scale`.
+fn point(numbers: &mut Numbers, ranges: &[(u16, u16)], scale: u64) -> Amounts {
+    let mut point = [0; 8];
+    for (link, &(low, high)) in ranges.iter().enumerate() {
+        let number = numbers.between(u64::from(low) * scale, u64::from(high) * scale);
+        point[link] = number.into();
+    }
+    point
+}
+
+/// Steps from points of a closed cell stay in its image, which meets the cell they lead to.
+fn sample(
+    certificate: &Certificate,
+    cell: &[Interval],
+    all: &[Vec<Interval>],
+    numbers: &mut Numbers,
+) {
+    let green = certificate.signals[0];
+    let arrivals = &certificate.arrivals[0];
+    let image = image(certificate, green, cell, arrivals);
+    let sides: Vec<_> = cell.iter().map(|i| (i.low, i.high)).collect();
+    let ranges: Vec<_> = arrivals.iter().map(|a| (a.low, a.high)).collect();
+    for _ in 0..20 {
+        let scale = numbers.between(1, 9);
+        let queues = point(numbers, &sides, scale);
+        let come = point(numbers, &ranges, scale);
+        let scale = i128::from(scale);
+        let next = next_queues(certificate, green, &queues, &come, scale);
+        for (link, &queue) in next.iter().enumerate() {
+            assert!(image.low[link] * scale <= queue);
+            assert!(queue <= image.high[link] * scale);
+        }
+        let holds = |other: &&Vec<Interval>| {
+            let mut sides = other.iter().zip(&next);
+            sides.all(|(side, &queue)| side.holds(queue, FINER * scale))
+        };
+        let leads_to: Vec<_> = all.iter().filter(holds).collect();
+        assert_eq!(leads_to.len(), 1);
+        assert!(image.meets(leads_to[0]));
+    }
+}
+
+#[test]
+fn images_hold_every_sampled_step() {
+    let mut numbers = Numbers(1);
+    let (mut sampled, mut passing) = (0, 0);
+    for _ in 0..3_000 {
+        let Ok(certificate) = read_sound(&bytes(&network(&mut numbers))) else {
+            continue;
+        };
+        let green = certificate.signals[0];
+        if !certificate
+            .turns
+            .iter()
+            .any(|turn| is_green(green, turn.from))
+        {
+            continue;
+        }
+        passing += 1;
+        let all = cells(&certificate);
+        for _ in 0..10 {
+            let cell = numbers.between(0, all.len() as u64 - 1) as usize;
+            sample(&certificate, &all[cell], &all, &mut numbers);
+            sampled += 1;
+        }
+    }
+    assert!(passing > 100, "{passing}");
+    assert_eq!(sampled, 10 * passing);
+}
+
+/// Eight green links, all of whose cells are goal, under arrivals that may lead anywhere.
+fn widest(grids: &str, entries: usize, boxes: usize) -> Vec<u8> {
+    let mut text = String::new();
+    for link in 0..8 {
+        let (tail, head) = if link < 4 { (0, 1) } else { (1, 2) };
+        text += &format!("link tail {tail} head {head} cap 20 flow 10 safe 20 goal 20\n");
+    }
+    for from in 0..4 {
+        for to in 4..8 {
+            text += &format!("turn from {from} to {to} share 25 pull 100\n");
+        }
+    }
+    text += "signal green 0 1 2 3 4 5 6 7\n";
+    text += grids;
+    for _ in 0..boxes {
+        text += &format!("arrivals{}\n", " 0-20".repeat(8));
+    }
+    let last = entries - 1;
+    text += &format!("entry cell 0..{last} mode 0 signal 0 next 0 rank 0\nend\n");
+    bytes(&text)
+}
+
+/// As many entries, boxes, links and cells as a certificate may have.
+#[test]
+fn widest_certificate_ends_soon() {
+    let grids = "grid 10\n".repeat(4) + &"grid 5 10 15\n".repeat(4);
+    let certificate = widest(&grids, 4_096, 8);
+    let started = std::time::Instant::now();
+    let report = judge(&certificate);
+    assert_eq!((report.number, report.a, report.b), (0, 0, 0));
+    assert!(report.count <= 4_096 * 8 * 4_096);
+    assert_eq!(report.count % 8, 0);
+    assert!(started.elapsed().as_secs() < 60);
+}
+
+/// A link that may send everything and gain up to its cap reaches every cell: the count's bound is met.
+#[test]
+fn count_can_reach_its_bound() {
+    let text = "\
+        link tail 0 head 1 cap 10 flow 10 safe 10 goal 10\n\
+        link tail 0 head 1 cap 10 flow 10 safe 10 goal 10\n\
+        signal green 0 1\n\
+        grid 1 2 3 4 5 6 7\n\
+        grid 1 2 3 4 5 6 7\n\
+        arrivals 0-10 0-10\n\
+        arrivals 0-10 0-12\n\
+        arrivals 0-20 0-20\n\
+        entry cell 0..63 mode 0 signal 0 next 0 rank 0\n\
+        end\n";
+    assert_eq!(judge(&bytes(text)), Report::SUCCESS.counting(64 * 3 * 64));
+}
