@@ -12,3 +12,4 @@ pub mod LongFront
 pub mod LongBack
 pub mod LongInput
 pub mod Numbers
+pub mod Places

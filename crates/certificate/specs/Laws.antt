@@ -28,3 +28,7 @@ ReadableFits = (s : List ℕ) → Readable s → length s ≤ maxLength
 -- a byte string reads as its first (greatest length + 1) bytes do
 abbrev pub LongInput : Type 0
 LongInput = (s : List ℕ) → readingOf s ≡ readingOf (take (maxLength + 1) s)
+
+-- a place of reading lies within the byte string or at its end: place A is at most its length, and there is no place B
+abbrev pub PlaceFits : Type 0
+PlaceFits = (s : List ℕ) → (readingOf s .a ≤ length s) × (readingOf s .b ≡ 0)

@@ -2,3 +2,4 @@
 pub mod State
 pub mod Query
 pub mod Write
+pub mod Laws

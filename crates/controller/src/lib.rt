@@ -1,5 +1,10 @@
 // The controller: a state that holds one certificate and a mode, and the calls load, query and write.
+ghost use mathlib.Core.Path.{_≡_};
+ghost use Rattle.controller.specs.State.{freshState};
 use certificate::Report;
+
+mod loading;
+mod writing;
 
 // The state by value: the stored certificate's bytes, how many there are, and the mode.
 pub struct Controller {
@@ -36,6 +41,17 @@ impl Controller {
 
     // The scales that a query may use: 1 to this.
     pub const MAX_SCALE: u32 = 100000;
+
+    // The fresh state: mode 0, and no certificate.
+    pub fn fresh() -> Controller
+        ensures { λ r. ⌜ r ≡ freshState ⌝ }
+    {
+        Controller {
+            bytes: [0u8; Controller::SIZE],
+            len: 0,
+            mode: 0,
+        }
+    }
 }
 
 // What a load answers: its report and the next state.

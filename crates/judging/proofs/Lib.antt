@@ -8,3 +8,4 @@ pub mod Counting
 pub mod Stages
 pub mod Outcome
 pub mod Verdicts
+pub mod Places

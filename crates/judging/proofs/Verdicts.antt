@@ -77,7 +77,7 @@ fallen s read = ⊎-elim after-pulls (λ p. record { stage = pull-high; a = p .0
         (rooms-split s read pulls)
 
 -- so a verdict is a refusal of reading or the result of a stage that holds
-by-stage : (s : List ℕ) (P : Report → Type 0) → ((readingOf s .number ≡ 0 → ⊥) → P (readingOf s)) → ((f : Fallen s) → P (resultOf s f)) → P (verdictOf s)
+pub by-stage : (s : List ℕ) (P : Report → Type 0) → ((readingOf s .number ≡ 0 → ⊥) → P (readingOf s)) → ((f : Fallen s) → P (resultOf s f)) → P (verdictOf s)
 by-stage s P refused falls =
     ⊎-elim
     (λ read. let f = fallen s read in rw (verdict-falls s (f .stage) (f .a) (f .b) (f .count) (f .falls)) (falls f))

@@ -3,7 +3,7 @@ use Prim.Native.Nat.{ℕ, _+_, _*_, _≤_, _<_}
 use mathlib.Core.List.{List}
 use mathlib.Core.Logic.{_↔_}
 use mathlib.Core.Path.{_≡_}
-use lib.ListN.{take}
+use lib.ListN.{length, take}
 use Rattle.certificate.specs.declared.Report.{Report}
 use Rattle.certificate.specs.Checks.{result}
 use Rattle.certificate.specs.Layout.{maxLength, linksOf, turnsOf, signalsOf, cellsOf, boxesOf, entriesOf, capOf, flowOf, fromOf, toOf, pullOf}
@@ -31,6 +31,18 @@ CountFits = (s : List ℕ) → verdictOf s .count ≤ entriesOf s * boxesOf s * 
 -- the numbers of a verdict are 0 to 15
 abbrev pub NumberFits : Type 0
 NumberFits = (s : List ℕ) → verdictOf s .number ≤ 15
+
+-- the places of a result: A and B are below the number of what they name; an offset is at most the length; a place that is not named is 0
+pub record Places (s : List ℕ) (r : Report) : Type 0 where
+  pub accepted : r .number ≡ 0 → (r .a ≡ 0) × (r .b ≡ 0)
+  pub reading : 1 ≤ r .number → r .number ≤ 9 → (r .a ≤ length s) × (r .b ≡ 0)
+  pub pull : r .number ≡ 10 → (r .a < signalsOf s) × (r .b < linksOf s)
+  pub room : r .number ≡ 11 → (r .a < turnsOf s) × (r .b ≡ 0)
+  pub entry : 12 ≤ r .number → r .number ≤ 13 → (r .a < entriesOf s) × (r .b ≡ 0)
+  pub successor : 14 ≤ r .number → r .number ≤ 15 → (r .a < entriesOf s) × (r .b < cellsOf s)
+
+abbrev pub PlacesFit : Type 0
+PlacesFit = (s : List ℕ) → Places s (verdictOf s)
 
 -- the verdict of a byte string is that of its first (greatest length + 1) bytes
 abbrev pub VerdictOfLong : Type 0
