@@ -11,6 +11,8 @@ usage: second list FILE     list a certificate (exit 0 accepted, 1 refused)
        second encode FILE   text of a certificate to bytes
        second decode FILE   bytes of a certificate to text
        second cases DIR     run the stored cases of a folder
+       second binary DIR    the stored cases as input of a test program
+       second expected DIR  what that program must print
 FILE may be `-` for standard input.
 ";
 
@@ -38,6 +40,8 @@ fn main() -> ExitCode {
         ["encode", file] => encode(file),
         ["decode", file] => decode(file),
         ["cases", folder] => run_cases(folder),
+        ["binary", folder] => binary(folder),
+        ["expected", folder] => expected(folder),
         _ => Err(Failure::new(2, USAGE.trim_end())),
     };
     match ended {
@@ -85,6 +89,16 @@ fn run_cases(folder: &str) -> Result<u8, Failure> {
     let (agreed, calls, cases) = (outcome.agreed(), outcome.calls, outcome.cases);
     print(format!("{agreed} of {calls} calls in {cases} cases agreed\n").as_bytes())?;
     Ok(if outcome.mismatches.is_empty() { 0 } else { 1 })
+}
+
+fn binary(folder: &str) -> Result<u8, Failure> {
+    let stream = cases::stream(Path::new(folder)).map_err(|what| Failure::new(1, what))?;
+    print(&stream).map(|()| 0)
+}
+
+fn expected(folder: &str) -> Result<u8, Failure> {
+    let text = cases::expected(Path::new(folder)).map_err(|what| Failure::new(1, what))?;
+    print(text.as_bytes()).map(|()| 0)
 }
 
 /// All bytes of a file, or of standard input.

@@ -3,7 +3,9 @@
 mod common;
 
 use common::{L, L_TEXT};
+use second::cases::{expected, stream};
 use std::io::Write;
+use std::path::Path;
 use std::process::{Command, Output, Stdio};
 
 /// Runs a command with this standard input.
@@ -75,6 +77,19 @@ fn cases() {
     let sources = concat!(env!("CARGO_MANIFEST_DIR"), "/src");
     let none = format!("{sources}: no case was found\n");
     ends(&["cases", sources], b"", 1, b"", &none);
+}
+
+#[test]
+fn binary_and_expected() {
+    let data = concat!(env!("CARGO_MANIFEST_DIR"), "/tests/data");
+    let folder = Path::new(data);
+    ends(&["binary", data], b"", 0, &stream(folder).unwrap(), "");
+    let text = expected(folder).unwrap();
+    ends(&["expected", data], b"", 0, text.as_bytes(), "");
+    let sources = concat!(env!("CARGO_MANIFEST_DIR"), "/src");
+    let none = format!("{sources}: no case was found\n");
+    ends(&["binary", sources], b"", 1, b"", &none);
+    ends(&["expected", sources], b"", 1, b"", &none);
 }
 
 #[test]

@@ -1,5 +1,5 @@
 -- Where each neighbour is above the one before it, all pairs ascend: for cuts, and for the pairs of turns and of entries. Assumes nothing.
-use Prim.Native.Nat.{ℕ, zero, suc, _≤_, _<_}
+use Prim.Native.Nat.{ℕ, zero, suc, _-_, _≤_, _<_}
 use mathlib.Core.Bool.{Bool, true, false, _&&_, _||_}
 use mathlib.Core.Path.{_≡_, refl, ap, _∙_}
 use mathlib.Core.Logic.{_↔_, inl, inr, ⊎-elim}
@@ -54,3 +54,11 @@ module _ (f g : ℕ → ℕ) (ascends : ℕ → Bool) (first : ascends 0 ≡ tru
       back : ((t u : ℕ) → t < u → u < n → PairBelow (f t) (g t) (f u) (g u)) → (t : ℕ) → t < n → ascends t ≡ true
       back h zero lt = first
       back h (suc t) lt = next t ∙ pair-says _ _ _ _ .1 (h t (suc t) (omega arith) lt)
+
+  -- the first pair passes, and a later one is tested against the one before it
+  pub ascends-first : (t : ℕ) → t ≡ 0 → true ≡ ascends t
+  ascends-first t e = rw (e, first)
+
+  pub ascends-after : (t : ℕ) → (t ≡ 0 → ⊥) → pairBelow (f (t - 1)) (g (t - 1)) (f t) (g t) ≡ ascends t
+  ascends-after zero h = absurd (h refl)
+  ascends-after (suc t) h = let e : suc t - 1 ≡ t = omega arith in rw (e, next)

@@ -4,6 +4,8 @@ pub mod Loops
 pub mod Checks
 pub mod Layout
 pub mod Records
+pub mod Carried
 pub mod Reading
+pub mod Laid
 pub mod Facts
 pub mod Laws

@@ -4,3 +4,5 @@ pub mod Holding
 pub mod Writings
 pub mod Lookups
 pub mod RoundTrip
+pub mod Answers
+pub mod Loads

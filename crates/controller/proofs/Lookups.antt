@@ -23,7 +23,7 @@ use Rattle.controller.specs.Query.{queueAt, isProper, cellAsked, lookupF
 use Rattle.controller.specs.Laws.{Holds, Proper, InForce, QueryEmpty, QueryImproper, QueryUnlisted, QuerySucceeds, QueryShows, QueryRefused, QueryNumbers}
 use Rattle.controller.proofs.Holding.{holds-is-plain}
 
-proper-tells : (s queues : List ℕ) (scale : ℕ) → Tells (isProper s queues scale) (Proper s queues scale)
+pub proper-tells : (s queues : List ℕ) (scale : ℕ) → Tells (isProper s queues scale) (Proper s queues scale)
 unfolding isProper
 proper-tells s queues scale =
     simp tests-say (

@@ -3,7 +3,11 @@ ghost use mathlib.Core.Path.{_≡_};
 ghost use Rattle.controller.specs.State.{freshState};
 use certificate::Report;
 
+mod asking;
 mod loading;
+mod proper;
+mod querying;
+mod stored;
 mod writing;
 
 // The state by value: the stored certificate's bytes, how many there are, and the mode.

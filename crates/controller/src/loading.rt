@@ -1,11 +1,14 @@
-// Storing a certificate's own copy in a state.
+// Loading: the verdict of any bytes, and the state that holds its own copy of an accepted certificate.
 ghost use mathlib.Core.Path.{_≡_};
 ghost use Prim.Native.Nat.{_≤_};
 ghost use lib.ListN.{length};
 ghost use Rattle.certificate.specs.Layout.{maxLength};
-ghost use Rattle.controller.specs.State.{holding};
+ghost use Rattle.runs.specs.Claim.{RunClaim};
+ghost use Rattle.controller.specs.State.{holding, loadOf};
 use crate::Controller;
+use crate::Loaded;
 use crate::writing;
+use judging::verdict;
 
 impl Controller {
     // The state that holds a copy of s, in mode 0, with zeros past the copy.
@@ -20,5 +23,20 @@ impl Controller {
             len: s.len(),
             mode: 0,
         }
+    }
+
+    // Loads any bytes from any state. Every run of an accepted certificate keeps the run claim.
+    pub fn load(self, s: &[u8]) -> Loaded
+        ensures { λ r. ⌜ (r ≡ loadOf self (now (s .entry))) × (r .report .number ≡ 0 → RunClaim (now (s .entry))) ⌝ }
+    {
+        let report = verdict::judge(s);
+        if report.number != 0 {
+            return Loaded {
+                report,
+                state: self,
+            };
+        }
+        let state = Controller::holding(s);
+        Loaded { report, state }
     }
 }

@@ -8,7 +8,9 @@ ghost use Rattle.certificate.specs.Checks.{refusal};
 ghost use Rattle.controller.specs.State.{holdsCertificate};
 ghost use Rattle.controller.specs.Write.{writeReport, writeBuffer};
 use crate::Controller;
+use crate::stored;
 use certificate::Report;
+use certificate::octets;
 
 // The first n bytes of src into the front of dst; the rest of dst stays.
 pub fn put(src: &[u8], n: usize, dst: &mut [u8])
@@ -54,5 +56,17 @@ impl Controller {
             b: 0,
             count: 0,
         }
+    }
+
+    // Writes the stored certificate into the buffer from start on; refuses where none is stored (18) or there is no room (17).
+    pub fn write(self, buffer: &mut [u8], start: usize) -> Report
+        ensures { λ r. ⌜ (r ≡ writeReport self (now (buffer .entry)) start) × (now (buffer .exit) ≡ writeBuffer self (now (buffer .entry)) start) ⌝ }
+    {
+        let found = stored::stored_reading(&self.bytes, self.len);
+        let f = found.report;
+        if f.number != 0 {
+            return octets::refuse(18, 0);
+        }
+        self.write_stored(buffer, start)
     }
 }

@@ -4,3 +4,8 @@ pub mod Intervals
 pub mod Images
 pub mod Meets
 pub mod Successors
+pub mod Blocks
+pub mod Filling
+pub mod Ranging
+pub mod Jumps
+pub mod Locating

@@ -8,4 +8,12 @@ pub mod Counting
 pub mod Stages
 pub mod Outcome
 pub mod Verdicts
+pub mod Finding
+pub mod Chaining
+pub mod Successors
+pub mod Searching
 pub mod Places
+pub mod Edges
+pub mod PlaceBounds
+pub mod Ranged
+pub mod Judge

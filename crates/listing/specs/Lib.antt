@@ -1,3 +1,4 @@
--- The text of a listing.
+-- The text of a listing, and where it is written.
 pub mod Text
+pub mod Place
 pub mod Listing

@@ -24,6 +24,15 @@ lineFeed = 0x0a ∷ []
 abbrev pub field : List ℕ → ℕ → List ℕ
 field word n = word ++ (space ++ decimal n)
 
+-- a line of numbers, one space apart: the first, and those after it
+unfoldable pub numbersAfter : ℕ → List ℕ → List ℕ
+numbersAfter n [] = decimal n ++ lineFeed
+numbersAfter n (m ∷ ns) = decimal n ++ (space ++ numbersAfter m ns)
+
+unfoldable pub numbersLine : List ℕ → List ℕ
+numbersLine [] = []
+numbersLine (n ∷ ns) = numbersAfter n ns
+
 abbrev pub linksWord : List ℕ
 linksWord = 0x6c ∷ 0x69 ∷ 0x6e ∷ 0x6b ∷ 0x73 ∷ []
 

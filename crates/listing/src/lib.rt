@@ -1,1 +1,25 @@
 // The listing of a certificate as text.
+ghost use Rattle.listing.specs.Listing.{listingOf, Sent};
+
+mod fields;
+mod lengths;
+mod lines;
+pub mod render;
+mod text;
+
+use certificate::Report;
+use judging::verdict;
+use network::screen;
+
+// Renders the listing of s into the front of the lent buffer: 0 with A the length of the text, or 17 and the buffer as it was.
+pub fn list(s: &[u8], buffer: &mut [u8]) -> Report
+    ensures { λ r. ⌜ Sent (listingOf (now (s .entry))) (now (buffer .entry)) (now (buffer .exit)) r ⌝ }
+{
+    let report = verdict::judge(s);
+    if report.number != 0 {
+        return render::render_refused(report, buffer);
+    }
+    let found = screen::screen(s);
+    let layout = found.layout;
+    render::render_accepted(s, layout.entries_start, report, buffer)
+}

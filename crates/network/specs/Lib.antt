@@ -5,3 +5,4 @@ pub mod Conditions
 pub mod Image
 pub mod Sound
 pub mod Laws
+pub mod Roads

@@ -34,7 +34,7 @@ struct Pair {
     dues: Vec<DueCase>,
 }
 
-/// Reads all files in the order of their names; the first fault ends it.
+/// Reads all files in the order of their names; the first fault ends it, and so does a folder without any case.
 pub fn read_folder(folder: &Path) -> Result<Folder, String> {
     let mut certificates = Certificates::new();
     let mut pairs = Vec::new();
@@ -53,6 +53,9 @@ pub fn read_folder(folder: &Path) -> Result<Folder, String> {
     let mut cases = Vec::new();
     for pair in pairs {
         cases.extend(pair_cases(pair, &certificates, &mut names)?);
+    }
+    if cases.is_empty() {
+        return Err(format!("{}: no case was found", folder.display()));
     }
     Ok(Folder {
         certificates,

@@ -1,0 +1,41 @@
+-- `certificate::arrivals::check_arrival` meets its contract. Assumes nothing.
+use Rattle.certificate.specs.Records.{arrivalFault}
+use Rattle.certificate.proofs.Cases.{first, second}
+use borrow.Author.Needs.{needs}
+use Rattle.certificate.proofs.arrivals.check_arrival.Statement.{statement}
+use Rattle.certificate.proofs.arrivals.check_arrival.Tie as tie
+
+arrival-at-requires : tie.Need-arrival-at-requires
+arrival-at-requires c κs = search needs
+
+mul-check-opened : tie.Need-mul-check-opened
+mul-check-opened c = search needs
+
+add-check-opened : tie.Need-add-check-opened
+add-check-opened c = search needs
+
+check-opened-requires : tie.Need-check-opened-requires
+check-opened-requires c κs = search needs
+
+returns : tie.Need-returns
+unfolding arrivalFault
+returns c = first _ _ _ (cc) (c .if1 .taken)
+
+check-ranges-requires : tie.Need-check-ranges-requires
+check-ranges-requires c κs = search needs
+
+returns-2 : tie.Need-returns-2
+unfolding arrivalFault
+returns-2 c = second (c .before .before .before .check-opened .result) _ _ _ (cc) (c .before .if1 .left) (cc)
+
+pub check-arrival-spec : {M : Type 1} → statement M
+check-arrival-spec =
+    tie.close
+    (tie.spec
+    arrival-at-requires
+    mul-check-opened
+    add-check-opened
+    check-opened-requires
+    returns
+    check-ranges-requires
+    returns-2)

@@ -1,0 +1,19 @@
+-- `certificate::arrivals::range_ok` meets its contract. Assumes nothing.
+use Rattle.certificate.specs.Octets.{_also_}
+use Rattle.certificate.specs.Records.{rangeOk}
+use borrow.Author.Needs.{needs}
+use Rattle.certificate.proofs.arrivals.range_ok.Statement.{statement}
+use Rattle.certificate.proofs.arrivals.range_ok.Tie as tie
+
+high-of-requires : tie.Need-high-of-requires
+high-of-requires c κs = search needs
+
+low-of-requires : tie.Need-low-of-requires
+low-of-requires c κs = search needs
+
+returns : tie.Need-returns
+unfolding rangeOk _also_
+returns c = cc
+
+pub range-ok-spec : {M : Type 1} → statement M
+range-ok-spec = tie.close (tie.spec high-of-requires low-of-requires returns)

@@ -1,0 +1,20 @@
+-- `certificate::grids::count_ok` meets its contract. Assumes nothing.
+use Rattle.certificate.specs.Octets.{_also_}
+use Rattle.certificate.specs.Records.{countOk}
+use Rattle.certificate.proofs.Products.{product-fits}
+use borrow.Author.Needs.{needs}
+use Rattle.certificate.proofs.grids.count_ok.Statement.{statement}
+use Rattle.certificate.proofs.grids.count_ok.Tie as tie
+
+count-at-requires : tie.Need-count-at-requires
+count-at-requires c κs = search needs
+
+mul-result : tie.Need-mul-result
+mul-result c = search (product-fits, needs)
+
+returns : tie.Need-returns
+unfolding countOk _also_
+returns c = cc
+
+pub count-ok-spec : {M : Type 1} → statement M
+count-ok-spec = tie.close (tie.spec count-at-requires mul-result returns)

@@ -1,0 +1,22 @@
+-- `certificate::header::check_header` meets its contract. Assumes nothing.
+use Rattle.certificate.specs.Records.{headerFault}
+use borrow.Author.Needs.{needs}
+use Rattle.certificate.proofs.header.check_header.Statement.{statement}
+use Rattle.certificate.proofs.header.check_header.Tie as tie
+
+check-opened-requires : tie.Need-check-opened-requires
+check-opened-requires c κs = search needs
+
+counts-ok-requires : tie.Need-counts-ok-requires
+counts-ok-requires c κs = search needs
+
+record-result-requires : tie.Need-record-result-requires
+record-result-requires c κs = search needs
+
+returns : tie.Need-returns
+unfolding headerFault
+returns c = cc
+
+pub check-header-spec : {M : Type 1} → statement M
+check-header-spec =
+    tie.close (tie.spec check-opened-requires counts-ok-requires record-result-requires returns)

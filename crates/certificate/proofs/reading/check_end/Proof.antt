@@ -1,0 +1,22 @@
+-- `certificate::reading::check_end` meets its contract. Assumes nothing.
+use Rattle.certificate.specs.Records.{endFault}
+use borrow.Author.Needs.{needs}
+use Rattle.certificate.proofs.reading.check_end.Statement.{statement}
+use Rattle.certificate.proofs.reading.check_end.Tie as tie
+
+check-opened-requires : tie.Need-check-opened-requires
+check-opened-requires c κs = search needs
+
+add-after : tie.Need-add-after
+add-after c = search needs
+
+record-result-requires : tie.Need-record-result-requires
+record-result-requires c κs = search needs
+
+returns : tie.Need-returns
+unfolding endFault
+returns c = cc
+
+pub check-end-spec : {M : Type 1} → statement M
+check-end-spec =
+    tie.close (tie.spec check-opened-requires add-after record-result-requires returns)

@@ -1,0 +1,72 @@
+-- `certificate::reading::check_network` meets its contract. Assumes nothing.
+use Rattle.certificate.specs.Layout.{turnsStart, signalsStart}
+use Rattle.certificate.specs.Reading.{linksFault, turnsFault, signalsFault}
+use Rattle.certificate.specs.Laid.{networkFault}
+use Rattle.certificate.proofs.Cases.{first, second}
+use borrow.Author.Needs.{needs}
+use Rattle.certificate.proofs.reading.check_network.Statement.{statement}
+use Rattle.certificate.proofs.reading.check_network.Tie as tie
+
+byte-at-requires : tie.Need-byte-at-requires
+byte-at-requires c κs = search needs
+
+byte-at-requires-2 : tie.Need-byte-at-requires-2
+byte-at-requires-2 c κs = search needs
+
+check-links-requires : tie.Need-check-links-requires
+check-links-requires c κs = search needs
+
+returns : tie.Need-returns
+unfolding networkFault linksFault
+returns c = first _ _ _ (cc) (c .if1 .taken)
+
+mul-start : tie.Need-mul-start
+mul-start c = search needs
+
+add-start : tie.Need-add-start
+add-start c = search needs
+
+check-turns-requires : tie.Need-check-turns-requires
+unfolding turnsStart
+check-turns-requires c κs = (search needs, search needs, cc, search needs)
+
+returns-2 : tie.Need-returns-2
+unfolding networkFault linksFault turnsFault
+returns-2 c = second (c .before .before .before .before .before .check-links .result) _ _ _ (cc) (c .before .before .before .if1 .left) (first _ _ _ (cc) (c .if2 .taken))
+
+mul-check-signals : tie.Need-mul-check-signals
+mul-check-signals c = search needs
+
+add-check-signals : tie.Need-add-check-signals
+add-check-signals c = search needs
+
+byte-at-requires-3 : tie.Need-byte-at-requires-3
+byte-at-requires-3 c κs = search needs
+
+check-signals-requires : tie.Need-check-signals-requires
+unfolding turnsStart signalsStart
+check-signals-requires c κs = (search needs, search needs, cc, search needs, search needs)
+
+returns-3 : tie.Need-returns-3
+unfolding networkFault linksFault turnsFault signalsFault
+returns-3 c =
+    second (c .before .before .before .before .before .before .before .check-links .result) _ _ _ (cc) (c .before .before .before .before .before .if1 .left)
+    (second (c .before .before .before .before .check-turns .result) _ _ _ (cc) (c .before .before .if2 .left) (cc))
+
+pub check-network-spec : {M : Type 1} → statement M
+check-network-spec =
+    tie.close
+    (tie.spec
+    byte-at-requires
+    byte-at-requires-2
+    check-links-requires
+    returns
+    mul-start
+    add-start
+    check-turns-requires
+    returns-2
+    mul-check-signals
+    add-check-signals
+    byte-at-requires-3
+    check-signals-requires
+    returns-3)

@@ -1,0 +1,51 @@
+-- `certificate::reading::check_tail` meets its contract. Assumes nothing.
+use Rattle.certificate.specs.Layout.{endAt}
+use Rattle.certificate.specs.Reading.{arrivalsFault, entriesFault}
+use Rattle.certificate.specs.Laid.{tailFault}
+use Rattle.certificate.proofs.Cases.{first, second}
+use borrow.Author.Needs.{needs}
+use Rattle.certificate.proofs.reading.check_tail.Statement.{statement}
+use Rattle.certificate.proofs.reading.check_tail.Tie as tie
+
+check-arrivals-requires : tie.Need-check-arrivals-requires
+check-arrivals-requires c κs = search needs
+
+returns : tie.Need-returns
+unfolding tailFault arrivalsFault
+returns c = first _ _ _ (cc) (c .if1 .taken)
+
+check-entries-requires : tie.Need-check-entries-requires
+check-entries-requires c κs = search needs
+
+returns-2 : tie.Need-returns-2
+unfolding tailFault arrivalsFault entriesFault
+returns-2 c = second (c .before .before .before .before .before .check-arrivals .result) _ _ _ (cc) (c .before .before .before .if1 .left) (first _ _ _ (cc) (c .if2 .taken))
+
+mul-check-end : tie.Need-mul-check-end
+mul-check-end c = search needs
+
+add-check-end : tie.Need-add-check-end
+add-check-end c = search needs
+
+check-end-requires : tie.Need-check-end-requires
+unfolding endAt
+check-end-requires c κs = (search needs, cc)
+
+returns-3 : tie.Need-returns-3
+unfolding tailFault arrivalsFault entriesFault
+returns-3 c =
+    second (c .before .before .before .before .before .before .before .before .check-arrivals .result) _ _ _ (cc) (c .before .before .before .before .before .before .if1 .left)
+    (second (c .before .before .before .before .before .check-entries .result) _ _ _ (cc) (c .before .before .before .if2 .left) (c .check-end .ensures))
+
+pub check-tail-spec : {M : Type 1} → statement M
+check-tail-spec =
+    tie.close
+    (tie.spec
+    check-arrivals-requires
+    returns
+    check-entries-requires
+    returns-2
+    mul-check-end
+    add-check-end
+    check-end-requires
+    returns-3)

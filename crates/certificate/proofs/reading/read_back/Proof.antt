@@ -1,0 +1,66 @@
+-- `certificate::reading::read_back` meets its contract. Assumes nothing.
+use Rattle.certificate.specs.Reading.{gridsFault}
+use Rattle.certificate.specs.Laid.{backFault}
+use Rattle.certificate.proofs.Cases.{first, second}
+use Rattle.certificate.proofs.Stages.{refused-as}
+use borrow.Author.Needs.{needs}
+use Rattle.certificate.proofs.reading.read_back.Statement.{statement}
+use Rattle.certificate.proofs.reading.read_back.Tie as tie
+
+grids-start-requires : tie.Need-grids-start-requires
+grids-start-requires c κs = search needs
+
+byte-at-requires : tie.Need-byte-at-requires
+byte-at-requires c κs = search needs
+
+check-grids-requires : tie.Need-check-grids-requires
+check-grids-requires c κs = search needs
+
+refused-requires : tie.Need-refused-requires
+refused-requires c κs = search needs
+
+returns : tie.Need-returns
+unfolding backFault gridsFault
+returns c =
+    let bad = c .before .if1 .taken in
+    refused-as (c .refused .ensures) bad (first _ _ _ (cc) bad)
+
+lay-out-requires : tie.Need-lay-out-requires
+lay-out-requires c κs = (c .before .before .before .before .before .before .before .pre, rw (← c .before .before .before .before .byte-at .ensures .0) (c .before .before .before .check-grids .ensures .laid (c .if1 .left)))
+
+check-tail-requires : tie.Need-check-tail-requires
+check-tail-requires c κs = search needs
+
+refused-requires-2 : tie.Need-refused-requires-2
+refused-requires-2 c κs = search needs
+
+returns-2 : tie.Need-returns-2
+unfolding backFault gridsFault
+returns-2 c =
+    let bad = c .before .if2 .taken in
+    refused-as (c .refused2 .ensures) bad
+    (second (c .before .before .before .before .before .before .before .before .check-grids .result .report) _ _ _ (cc) (c .before .before .before .before .before .if1 .left) (c .before .before .before .check-tail .ensures))
+
+returns-3 : tie.Need-returns-3
+unfolding backFault gridsFault
+returns-3 c =
+    record {
+      report-is = second (c .before .before .before .before .before .before .before .check-grids .result .report) _ _ _ (cc) (c .before .before .before .before .if1 .left) (c .before .before .check-tail .ensures);
+      laid = λ z. c .before .before .before .lay-out .ensures;
+      none = λ h. absurd (h (c .if2 .left));
+    }
+
+pub read-back-spec : {M : Type 1} → statement M
+read-back-spec =
+    tie.close
+    (tie.spec
+    grids-start-requires
+    byte-at-requires
+    check-grids-requires
+    refused-requires
+    returns
+    lay-out-requires
+    check-tail-requires
+    refused-requires-2
+    returns-2
+    returns-3)

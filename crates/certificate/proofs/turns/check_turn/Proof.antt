@@ -1,0 +1,29 @@
+-- `certificate::turns::check_turn` meets its contract. Assumes nothing.
+use Rattle.certificate.specs.Records.{turnFault}
+use borrow.Author.Needs.{needs}
+use Rattle.certificate.proofs.turns.check_turn.Statement.{statement}
+use Rattle.certificate.proofs.turns.check_turn.Tie as tie
+
+mul-o : tie.Need-mul-o
+mul-o c = search needs
+
+add-o : tie.Need-add-o
+add-o c = search needs
+
+check-opened-requires : tie.Need-check-opened-requires
+check-opened-requires c κs = search needs
+
+turn-ok-requires : tie.Need-turn-ok-requires
+turn-ok-requires c κs = search needs
+
+record-result-requires : tie.Need-record-result-requires
+record-result-requires c κs = search needs
+
+returns : tie.Need-returns
+unfolding turnFault
+returns c = cc
+
+pub check-turn-spec : {M : Type 1} → statement M
+check-turn-spec =
+    tie.close
+    (tie.spec mul-o add-o check-opened-requires turn-ok-requires record-result-requires returns)

@@ -1,0 +1,78 @@
+// Runs the stored cases that standard input holds, and prints a line for each case and call.
+// A case is the byte C and its calls (input.rt); the byte E ends the stream.
+use controller::Controller;
+use input::Call;
+
+mod buffer;
+mod calls;
+mod input;
+mod output;
+mod parts;
+
+// A state made by hand: stored bytes, then zeros; its length; its mode.
+fn made(bytes: &[u8], len: usize, mode: u8) -> Controller {
+    let mut stored = [0u8; Controller::SIZE];
+    parts::copy(bytes, &mut stored);
+    Controller {
+        bytes: stored,
+        len,
+        mode,
+    }
+}
+
+fn write(state: Controller, size: usize, start: usize) {
+    let mut lent = [0u8; input::MOST_LENT];
+    calls::do_write(state, &mut lent, size, start);
+}
+
+fn list(bytes: &[u8]) {
+    let mut text = [0u8; input::MOST_LENT];
+    calls::do_list(bytes, &mut text);
+}
+
+// Makes a call, prints its line, and answers the next state.
+fn answer(state: Controller, call: Call, bytes: &[u8], queues: &[u32]) -> Controller {
+    let mark = call.mark;
+    let n = call.n;
+    match mark {
+        b'F' => Controller::fresh(),
+        b'S' => made(parts::front(bytes, n), call.start, call.mode),
+        b'L' => calls::do_load(state, parts::front(bytes, n)),
+        b'Q' => calls::do_query(state, parts::front_numbers(queues, n), call.scale),
+        b'W' => {
+            write(state, n, call.start);
+            state
+        }
+        _ => {
+            list(parts::front(bytes, n));
+            state
+        }
+    }
+}
+
+fn main() {
+    let mut bytes = [0u8; input::MOST_BYTES];
+    let mut queues = [0u32; input::MOST_QUEUES];
+    let mut state = Controller::fresh();
+    let mut cases = 0;
+    let mut turns = u64::MAX;
+    while turns > 0 {
+        turns -= 1;
+        let mark = input::octet();
+        if mark == b'E' {
+            return;
+        }
+        if mark == b'C' {
+            output::case(cases);
+            cases = std::num::wrapping_add_u64(cases, 1);
+            state = Controller::fresh();
+        } else {
+            let call = input::read_call(mark, &mut bytes, &mut queues);
+            if call.n == input::BROKEN {
+                output::text(b"the stream is broken\n");
+                return;
+            }
+            state = answer(state, call, &bytes, &queues);
+        }
+    }
+}

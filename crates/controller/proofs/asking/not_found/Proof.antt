@@ -1,0 +1,13 @@
+-- `controller::asking::not_found` meets its contract. Assumes nothing.
+use borrow.Author.Needs.{needs}
+use Rattle.controller.proofs.asking.not_found.Statement.{statement}
+use Rattle.controller.proofs.asking.not_found.Tie as tie
+
+refuse-requires : tie.Need-refuse-requires
+refuse-requires c κs = search needs
+
+returns : tie.Need-returns
+returns c = cc
+
+pub not-found-spec : {M : Type 1} → statement M
+not-found-spec = tie.close (tie.spec refuse-requires returns)

@@ -1,0 +1,16 @@
+-- `controller::proper::is_proper` meets its contract. Assumes nothing.
+use Rattle.certificate.specs.Octets.{_also_}
+use Rattle.controller.specs.Query.{isProper}
+use borrow.Author.Needs.{needs}
+use Rattle.controller.proofs.proper.is_proper.Statement.{statement}
+use Rattle.controller.proofs.proper.is_proper.Tie as tie
+
+queues-fit-requires : tie.Need-queues-fit-requires
+queues-fit-requires c κs = search needs
+
+returns : tie.Need-returns
+unfolding isProper _also_
+returns c = cc
+
+pub is-proper-spec : {M : Type 1} → statement M
+is-proper-spec = tie.close (tie.spec queues-fit-requires returns)

@@ -1,0 +1,25 @@
+-- `exports::dergvost_screen` meets its contract: the report is what the screening answers, where the slice has room. Assumes nothing.
+use borrow.Author.Needs.{needs}
+use mathlib.Core.Path.{refl}
+use native.Mathlib.Omega.{arith}
+use Rattle.exports.proofs.dergvost_screen.Statement.{statement}
+use Rattle.exports.proofs.dergvost_screen.Tie as tie
+
+returns : tie.Need-returns
+returns c = record { filled = λ h. absurd (omega arith); short = λ h. (refl, refl) }
+
+screen-requires : tie.Need-screen-requires
+screen-requires c κs = search needs
+
+put-report-requires : tie.Need-put-report-requires
+put-report-requires c κs = search needs
+
+same-length : tie.Need-same-length
+same-length c = search needs
+
+returns-2 : tie.Need-returns-2
+returns-2 c = record { filled = λ h. (cc, cc); short = λ h. absurd (omega arith) }
+
+pub dergvost-screen-spec : {M : Type 1} → statement M
+dergvost-screen-spec =
+    tie.close (tie.spec returns screen-requires put-report-requires same-length returns-2)

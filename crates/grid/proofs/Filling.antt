@@ -1,0 +1,105 @@
+-- Tables that are filled entry by entry: the table of edges and that of intervals. Assumes nothing.
+use Prim.Native.Nat.{ℕ, zero, suc, _+_, _*_, _-_, _/_, _%_, _≤_, _<_}
+use mathlib.Core.List.{List}
+use mathlib.Core.Path.{_≡_, refl, sym, _∙_}
+use native.Mathlib.Numerals.{add-one}
+use native.Mathlib.Omega.{arith}
+use borrow.Author.Count.{below-more}
+use borrow.Author.Tests.{lt-ltb, le-ltb}
+use lib.ListN.{length, getD, set, length-set}
+use lib.Seq.{getD-set-same, getD-set-other}
+use Rattle.certificate.specs.Layout.{linksOf, capOf, gridAt, countAt, cutAt, intervalsOf, cellsOf}
+use Rattle.certificate.specs.Records.{cutBefore}
+use Rattle.certificate.specs.Facts.{Readable}
+use Rattle.certificate.proofs.Offsets.{starts, grid-end}
+use Rattle.certificate.proofs.Size.{readable-fits}
+use Rattle.grid.specs.Intervals.{lowerEdge, upperEdge}
+use Rattle.grid.specs.Tables.{Holds, edgeOf, EdgesOf, weightOf, digitEntry, DigitsOf}
+use Rattle.grid.proofs.Edges.{upper-inner, upper-last}
+use Rattle.grid.proofs.Blocks.{interval-quotient}
+
+-- a table of that size has the property P at each of its first n entries, and at one more
+abbrev pub Each : ℕ → ℕ → (ℕ → ℕ → Type 0) → List ℕ → Type 0
+Each size n P a = (length a ≡ size) × ((k : ℕ) → k < n → P k (getD a k 0))
+
+pub each-more : (size n : ℕ) (P : ℕ → ℕ → Type 0) (a : List ℕ) (v : ℕ) → Each size n P a → n < size → P n v → Each size (n + 1) P (set a n v)
+each-more size n P a v h lt p = (
+  length-set a n v ∙ h .0,
+  below-more (λ k. P k (getD (set a n v) k 0)) n (λ k below. rw (getD-set-other a n k v 0 (λ z. omega arith)) (h .1 k below)) (rw (getD-set-same a n v 0 (omega arith)) p),
+)
+
+-- the entries are those of f
+abbrev pub Filled : ℕ → ℕ → (ℕ → ℕ) → List ℕ → Type 0
+Filled size n f a = Each size n (λ k v. v ≡ f k) a
+
+pub filled-more : (size n : ℕ) (f : ℕ → ℕ) (a : List ℕ) (v : ℕ) → Filled size n f a → n < size → v ≡ f n → Filled size (n + 1) f (set a n v)
+filled-more size n f a v h lt e = each-more size n (λ k v. v ≡ f k) a v h lt e
+
+-- a grid record starts within a certificate
+pub grid-place : (s : List ℕ) → Readable s → (l : ℕ) → l < linksOf s → gridAt s l ≤ 100000
+grid-place s R l lt = omega (arith, R .whole, readable-fits s R, starts s, grid-end s l lt)
+
+-- edge i after the first: r is what the code reads of the grid record at o, which counts n intervals, or of the link
+pub edge-cut : (s : List ℕ) (l i o n r : ℕ) → (i ≡ 0 → ⊥) → o ≡ gridAt s l → n ≡ countAt s o → i < n → r ≡ cutAt s o (i - 1) → r ≡ edgeOf s l i
+unfolding edgeOf
+edge-cut s l zero o n r z e f h q = absurd (z refl)
+edge-cut s l (suc i) o n r z e f h q =
+    let same : suc i - 1 ≡ i = omega arith in
+    let count : n ≡ intervalsOf s l = cc in
+    q ∙ rw (e, same) (sym (upper-inner s l i (omega arith)))
+
+pub edge-cap : (s : List ℕ) (l i o n r : ℕ) → (i ≡ 0 → ⊥) → o ≡ gridAt s l → n ≡ countAt s o → n ≤ i → r ≡ capOf s l → r ≡ edgeOf s l i
+unfolding edgeOf
+edge-cap s l zero o n r z e f h q = absurd (z refl)
+edge-cap s l (suc i) o n r z e f h q =
+    let count : n ≡ intervalsOf s l = cc in
+    q ∙ sym (upper-last s l i (omega arith))
+
+edge-lower : (s : List ℕ) (l i : ℕ) → i < intervalsOf s l → edgeOf s l i ≡ lowerEdge s l i
+unfolding edgeOf cutBefore
+edge-lower s l zero h = refl
+edge-lower s l (suc i) h = upper-inner s l i (omega arith)
+
+edge-upper : (s : List ℕ) (l i : ℕ) → edgeOf s l (i + 1) ≡ upperEdge s l i
+unfolding edgeOf
+edge-upper s l i = rw add-one
+
+-- entry 16 l + i of the table of edges
+unfoldable pub edgeEntry : List ℕ → ℕ → ℕ
+edgeEntry s k = edgeOf s (k / 16) (k % 16)
+
+entry-is : (s : List ℕ) (l i : ℕ) → i < 16 → edgeEntry s (16 * l + i) ≡ edgeOf s l i
+unfolding edgeEntry
+entry-is s l i h =
+    let e : (16 * l + i) / 16 ≡ l = omega arith in
+    let f : (16 * l + i) % 16 ≡ i = omega arith in
+    rw (e, f)
+
+pub edges-filled : (s : List ℕ) → Readable s → (a : List ℕ) (n : ℕ) → n ≡ 16 * linksOf s → Holds n (edgeEntry s) a → EdgesOf s a
+edges-filled s R a n e h =
+    record {
+      lower = λ l i lt b.
+          let m : intervalsOf s l ≤ 15 = R .grid l lt .count-most in
+          h (16 * l + i) (omega arith) ∙ entry-is s l i (omega arith) ∙ edge-lower s l i b;
+      upper = λ l i lt b.
+          let m : intervalsOf s l ≤ 15 = R .grid l lt .count-most in
+          let same : 16 * l + i + 1 ≡ 16 * l + (i + 1) = omega arith in
+          rw same (h (16 * l + (i + 1)) (omega arith) ∙ entry-is s l (i + 1) (omega arith) ∙ edge-upper s l i);
+    }
+
+-- entry k of the table of intervals, as the code finds it: by the weight w and the count n of its link
+pub digit-here : (s : List ℕ) (k links w n : ℕ) → k % 8 < links → links ≡ linksOf s → w ≡ weightOf s (k % 8) → n ≡ intervalsOf s (k % 8) → k / 8 / w % n ≡ digitEntry s k
+unfolding digitEntry
+digit-here s k links w n lt e f g = rw (f, g, lt-ltb (k % 8) (linksOf s) (omega arith)) (sym (interval-quotient s (k / 8) (k % 8)))
+
+pub digit-absent : (s : List ℕ) (k links : ℕ) → links ≤ k % 8 → links ≡ linksOf s → 0 ≡ digitEntry s k
+unfolding digitEntry
+digit-absent s k links le e = rw (le-ltb (k % 8) (linksOf s) (omega arith))
+
+pub digits-filled : (s : List ℕ) → Readable s → (a : List ℕ) (n : ℕ) → n ≡ 8 * cellsOf s → Holds n (digitEntry s) a → DigitsOf s a
+unfolding digitEntry
+digits-filled s R a n e h c l below lt =
+    let m : linksOf s ≤ 8 = R .header .links-most in
+    let q : (8 * c + l) / 8 ≡ c = omega arith in
+    let p : (8 * c + l) % 8 ≡ l = omega arith in
+    h (8 * c + l) (omega arith) ∙ rw (q, p, lt-ltb l (linksOf s) lt)

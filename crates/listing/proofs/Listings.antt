@@ -1,0 +1,29 @@
+-- What `list` answers, from the verdict and the layout. Assumes nothing.
+use Prim.Native.Nat.{ℕ}
+use mathlib.Core.List.{List}
+use mathlib.Core.Path.{_≡_, sym, _∙_, ap}
+use native.Mathlib.Omega.{arith}
+use Rattle.certificate.specs.declared.Report.{Report}
+use Rattle.certificate.specs.declared.reading.Reading.{Reading}
+use Rattle.certificate.specs.Laid.{ReadAs}
+use Rattle.network.specs.Conditions.{screeningOf}
+use Rattle.network.proofs.Screening.{screening-is-plain}
+use Rattle.judging.specs.Verdict.{verdictOf}
+use Rattle.judging.proofs.Verdicts.{accepted-is-plain}
+use Rattle.listing.specs.Listing.{EntriesAt, acceptedText, refusedLine, listingOf, Sent}
+use Rattle.listing.proofs.Sending.{text-accepted, text-refused, listed}
+
+module _ (s : List ℕ) (r : Report) (verdict : r ≡ verdictOf s) {buffer after : List ℕ} {answer : Report} where
+  pub list-refused : (r .number ≡ 0 → ⊥) → Sent (refusedLine r) buffer after answer → Sent (listingOf s) buffer after answer
+  list-refused bad h = listed s verdict (rw (text-refused s r bad) h)
+
+  pub list-accepted : r .number ≡ 0 → Sent (acceptedText s r) buffer after answer → Sent (listingOf s) buffer after answer
+  list-accepted z h = listed s verdict (rw (text-accepted s r z) h)
+
+-- an accepted certificate's layout says where its entries begin
+pub entries-at : (s : List ℕ) (r : Report) (found : Reading) → r ≡ verdictOf s → r .number ≡ 0 → ReadAs s (screeningOf s) found
+    → EntriesAt s (found .layout .«entries_start»)
+entries-at s r found verdict z read =
+    let screened : screeningOf s .number ≡ 0 = screening-is-plain s .1 (accepted-is-plain s .0 (rw verdict at z) .0) in
+    let Y = read .laid (rw (read .report-is) screened) in
+    record { bound = Y .entries-start-most; place = Y .entries-start-is; most = omega (arith, Y .entries-are, Y .entries-most) }

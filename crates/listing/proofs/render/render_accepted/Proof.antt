@@ -1,0 +1,34 @@
+-- `listing::render::render_accepted` meets its contract. Assumes nothing.
+use native.Mathlib.Omega.{arith}
+use mathlib.Core.Path.{_∙_, ap}
+use Prim.Native.Nat.{ℕ}
+use borrow.Author.Needs.{needs}
+use Rattle.certificate.specs.Checks.{result}
+use Rattle.listing.proofs.Sending.{refuses, sends}
+use Rattle.listing.proofs.render.render_accepted.Statement.{statement}
+use Rattle.listing.proofs.render.render_accepted.Tie as tie
+
+text-length-requires : tie.Need-text-length-requires
+text-length-requires c κs = search needs
+
+no-room-requires : tie.Need-no-room-requires
+no-room-requires c κs = search needs
+
+returns : tie.Need-returns
+returns c = refuses (omega arith) (c .no-room .ensures)
+
+put-text-requires : tie.Need-put-text-requires
+put-text-requires c κs = (c .before .before .before .before .before .pre, record { fits = omega arith })
+
+sent-requires : tie.Need-sent-requires
+sent-requires c κs = search needs
+
+same-length : tie.Need-same-length
+same-length c = search needs
+
+returns-2 : tie.Need-returns-2
+returns-2 c = sends (omega arith) (c .before .before .before .put-text .ensures) (c .sent .ensures ∙ ap (λ (n : ℕ). result 0 n 0 0) (c .before .before .before .before .before .before .text-length .ensures .0))
+
+pub render-accepted-spec : {M : Type 1} → statement M
+render-accepted-spec =
+    tie.close (tie.spec text-length-requires no-room-requires returns put-text-requires sent-requires same-length returns-2)

@@ -1,0 +1,93 @@
+// The text of a listing, put into a lent buffer: the whole of it, or nothing where the buffer is shorter (refusal 17).
+ghost use mathlib.Core.Path.{_≡_};
+ghost use Prim.Native.Nat.{_≤_};
+ghost use lib.ListN.{length};
+ghost use Rattle.certificate.specs.Checks.{result, refusal};
+ghost use Rattle.listing.specs.Place.{Room, Put};
+ghost use Rattle.listing.specs.Listing.{EntriesAt, refusedLine, acceptedText, textOf, Sent};
+use crate::fields;
+use crate::lengths;
+use crate::lines;
+use certificate::Report;
+
+// The answer for a text that does not fit.
+fn no_room() -> Report
+    ensures { λ r. ⌜ r ≡ refusal 17 0 ⌝ }
+{
+    Report {
+        number: 17,
+        a: 0,
+        b: 0,
+        count: 0,
+    }
+}
+
+// The answer for a text of this length.
+fn sent(size: usize) -> Report
+    requires { ⌜ size ≤ 1000000 ⌝ }
+    ensures { λ r. ⌜ r ≡ result 0 size 0 0 ⌝ }
+{
+    Report {
+        number: 0,
+        a: size as u32,
+        b: 0,
+        count: 0,
+    }
+}
+
+// The text of an accepted certificate: how long it is.
+fn text_length(s: &[u8], start: usize, report: Report) -> usize
+    requires { ⌜ EntriesAt (now s) start ⌝ }
+    ensures { λ r. ⌜ (r ≡ length (acceptedText (now (s .entry)) report)) × (r ≤ 1000000) ⌝ }
+{
+    lengths::counts_length(s)
+        + lengths::entries_length(s, start, fields::entries_of(s))
+        + lengths::accepted_length(report)
+}
+
+// The text of an accepted certificate, in the front of the buffer.
+fn put_text(buffer: &mut [u8], s: &[u8], start: usize, report: Report) -> usize
+    requires { ⌜ EntriesAt (now s) start × Room (now buffer) 0 (acceptedText (now s) report) ⌝ }
+    ensures { λ r. ⌜ Put (now (buffer .entry)) 0 (acceptedText (now (s .entry)) report) (now (buffer .exit)) r ⌝ }
+{
+    let first = lines::put_counts(buffer, 0, s);
+    let last = lines::put_entries(buffer, first, s, start, fields::entries_of(s));
+    lines::put_accepted(buffer, last, report)
+}
+
+// The listing of an accepted certificate. `start` is where the records of its entries begin.
+pub fn render_accepted(s: &[u8], start: usize, report: Report, buffer: &mut [u8]) -> Report
+    requires { ⌜ EntriesAt (now s) start ⌝ }
+    ensures { λ r. ⌜ Sent (acceptedText (now (s .entry)) report) (now (buffer .entry)) (now (buffer .exit)) r ⌝ }
+{
+    let size = text_length(s, start, report);
+    if buffer.len() < size {
+        return no_room();
+    }
+    put_text(buffer, s, start, report);
+    sent(size)
+}
+
+// The listing of a refused certificate.
+pub fn render_refused(report: Report, buffer: &mut [u8]) -> Report
+    ensures { λ r. ⌜ Sent (refusedLine report) (now (buffer .entry)) (now (buffer .exit)) r ⌝ }
+{
+    let size = lengths::refused_length(report);
+    if buffer.len() < size {
+        return no_room();
+    }
+    lines::put_refused(buffer, 0, report);
+    sent(size)
+}
+
+// The listing of s under a report. Where it is accepted, `start` is where the records of its entries begin.
+pub fn render(s: &[u8], start: usize, report: Report, buffer: &mut [u8]) -> Report
+    requires { ⌜ (report .number ≡ 0 → EntriesAt (now s) start) ⌝ }
+    ensures { λ r. ⌜ Sent (textOf (now (s .entry)) report) (now (buffer .entry)) (now (buffer .exit)) r ⌝ }
+{
+    if report.number == 0 {
+        render_accepted(s, start, report, buffer)
+    } else {
+        render_refused(report, buffer)
+    }
+}

@@ -1,0 +1,33 @@
+-- The links that a turn joins are among eight. Assumes nothing.
+use Prim.Native.Nat.{ℕ, _≤_, _<_}
+use mathlib.Core.List.{List}
+use native.Mathlib.Omega.{arith}
+use Rattle.certificate.specs.Layout.{linksOf, capOf, flowOf, fromOf, toOf}
+use Rattle.certificate.specs.Facts.{Readable}
+use Rattle.network.specs.Roads.{Roads, at, WithinCaps}
+
+module _ {s : List ℕ} {start turns links : ℕ} (R : Roads s start turns links) where
+  pub turns-most : turns ≤ 32
+  turns-most = omega (arith, R .readable .header)
+
+  pub links-most : links ≤ 8
+  links-most = omega (arith, R .readable .header)
+
+  pub from-link : (t : ℕ) → t < turns → fromOf s t < links
+  from-link t h = omega (arith, R .readable .turn t (omega arith))
+
+  pub to-link : (t : ℕ) → t < turns → toOf s t < links
+  to-link t h = omega (arith, R .readable .turn t (omega arith))
+
+  pub from-most : (t : ℕ) → t < turns → fromOf s t < 8
+  from-most t h = omega (arith, from-link t h, links-most)
+
+  pub to-most : (t : ℕ) → t < turns → toOf s t < 8
+  to-most t h = omega (arith, to-link t h, links-most)
+
+  pub to-room : (t : ℕ) → t < turns → flowOf s (toOf s t) ≤ capOf s (toOf s t)
+  to-room t h = R .readable .link (toOf s t) (omega (arith, to-link t h)) .flow-most
+
+-- no queue within the caps exceeds 10,000
+pub queue-most : {s x : List ℕ} → Readable s → WithinCaps s x → (l : ℕ) → l < linksOf s → at x l ≤ 10000
+queue-most R W l h = omega (arith, W .fits l h, R .link l h)

@@ -1,0 +1,172 @@
+//! Random calls on both sides.
+
+mod slices;
+
+use crate::generate::{
+    any_query, any_state, any_write, bytes::bytes_of, certificate, damaged, Size,
+};
+use crate::numbers::Numbers;
+use crate::sides::{judge, list, listed, screen, Agreed, Difference, Sides};
+use crate::tally::Tally;
+use second::reading::read;
+use second::text::decode;
+use second::Certificate;
+
+/// How much is compared, and from which seed.
+#[derive(Clone, Debug)]
+pub struct Plan {
+    pub seed: u64,
+    pub loads: u64,
+    pub queries: u64,
+}
+
+/// The first difference, with all that is needed to see it again.
+pub struct Found {
+    pub load: u64,
+    pub difference: Difference,
+    /// The bytes of the last load, and those stored on the second checker's side.
+    pub bytes: Vec<u8>,
+    pub stored: Vec<u8>,
+}
+
+/// Compares until the plan is done or a difference is found.
+pub fn differential(plan: &Plan) -> Result<Tally, Box<Found>> {
+    let mut run = Run {
+        sides: Sides::fresh(),
+        base: certificate(&mut Numbers::of(plan.seed, u64::MAX), Size::Small),
+        held: None,
+        bytes: Vec::new(),
+        tally: Tally::default(),
+    };
+    for load in 0..plan.loads {
+        let due = u128::from(plan.queries) * u128::from(load + 1) / u128::from(plan.loads);
+        let mut numbers = Numbers::of(plan.seed, load);
+        if let Err(difference) = run.step(&mut numbers, due as u64) {
+            return Err(run.found(load, *difference));
+        }
+    }
+    Ok(run.tally)
+}
+
+struct Run {
+    sides: Sides,
+    /// The certificate that damaged copies are made of.
+    base: Certificate,
+    /// What the state was last given, if it can be read.
+    held: Option<Certificate>,
+    bytes: Vec<u8>,
+    tally: Tally,
+}
+
+impl Run {
+    /// One load and the calls after it, until `queries` have been made in all.
+    fn step(&mut self, numbers: &mut Numbers, queries: u64) -> Agreed<()> {
+        self.draw(numbers);
+        screen(&self.bytes)?;
+        let report = self.sides.load(&self.bytes)?;
+        self.tally.loads.add(report.number);
+        judge(&self.bytes, report)?;
+        if report.number == 0 {
+            self.held = read(&self.bytes).ok();
+        }
+        if numbers.chance(10) {
+            self.hand(numbers);
+        }
+        while self.tally.queries.all() < queries {
+            let query = any_query(self.held.as_ref().unwrap_or(&self.base), numbers);
+            let report = self.sides.query(&query)?;
+            self.tally.queries.add(report.number);
+        }
+        self.write(numbers)?;
+        if numbers.chance(30) {
+            self.list(numbers)?;
+        }
+        if numbers.chance(5) {
+            slices::compare(&self.bytes, &self.sides, numbers)?;
+        }
+        Ok(())
+    }
+
+    /// The next bytes: a new certificate, or a damaged copy of the last.
+    fn draw(&mut self, numbers: &mut Numbers) {
+        if numbers.chance(60) {
+            self.bytes = damaged(&self.base, numbers);
+            return;
+        }
+        let size = match numbers.below(400) {
+            0 => Size::Large,
+            _ => Size::Small,
+        };
+        self.base = certificate(numbers, size);
+        self.bytes = bytes_of(&self.base);
+    }
+
+    /// Both sides take a state made by hand.
+    fn hand(&mut self, numbers: &mut Numbers) {
+        self.sides = Sides::of(any_state(&self.bytes, numbers));
+        if let Ok(certificate) = read(&self.bytes) {
+            self.held = Some(certificate);
+        }
+    }
+
+    fn write(&mut self, numbers: &mut Numbers) -> Agreed<()> {
+        let length = self.sides.own.length.min(40_000);
+        let (size, start) = any_write(length, numbers);
+        let report = self.sides.write(size, start)?;
+        self.tally.writes.add(report.number);
+        Ok(())
+    }
+
+    fn list(&mut self, numbers: &mut Numbers) -> Agreed<()> {
+        let text = listed(&self.bytes);
+        let room = match numbers.below(8) {
+            0 => numbers.below(text.len()),
+            1 => text.len() - 1,
+            2 => text.len(),
+            _ => text.len() + numbers.below(200),
+        };
+        let report = list(&self.bytes, &text, room)?;
+        self.tally.listings.add(report.number);
+        Ok(())
+    }
+
+    fn found(self, load: u64, difference: Difference) -> Box<Found> {
+        let stored = self.sides.own.stored;
+        let stored = stored.get(..self.sides.own.length).unwrap_or(&[]);
+        Box::new(Found {
+            load,
+            difference,
+            stored: stored.to_vec(),
+            bytes: self.bytes,
+        })
+    }
+}
+
+/// A difference, for a reader.
+pub fn shown(seed: u64, found: &Found) -> String {
+    let Difference {
+        call,
+        second,
+        library,
+    } = &found.difference;
+    let mut text = format!(
+        "difference at load {} of seed {seed}\n{call}\n  second checker: {second}\n  library: {library}\n",
+        found.load
+    );
+    text += &format!("the load's certificate:\n{}", shown_bytes(&found.bytes));
+    if found.stored != found.bytes {
+        text += &format!("the stored bytes:\n{}", shown_bytes(&found.stored));
+    }
+    text
+}
+
+/// The text of a certificate, or its refusal and bytes.
+pub fn shown_bytes(bytes: &[u8]) -> String {
+    match decode(bytes) {
+        Ok(text) => text,
+        Err(refusal) => {
+            let bytes: Vec<String> = bytes.iter().map(|byte| format!("{byte:02X}")).collect();
+            format!("refused {refusal}\nbytes {}\n", bytes.join(" "))
+        }
+    }
+}

@@ -1,0 +1,90 @@
+//! What a certificate holds before its entries, in arrays of full size.
+
+/// Most links, and most arrival boxes.
+pub const MOST: usize = 8;
+
+#[derive(Clone, Copy, Default)]
+pub struct Link {
+    pub tail: u8,
+    pub head: u8,
+    pub cap: u16,
+    pub flow: u16,
+    pub safe: u16,
+    pub goal: u16,
+}
+
+#[derive(Clone, Copy, Default)]
+pub struct Turn {
+    pub from: u8,
+    pub to: u8,
+    pub share: u8,
+    pub pull: u16,
+}
+
+/// Places beyond the counts are 0.
+#[derive(Clone, Default)]
+pub struct Network {
+    pub links: usize,
+    pub turns: usize,
+    pub signals: usize,
+    pub modes: usize,
+    pub boxes: usize,
+    pub entries: usize,
+    pub link: [Link; MOST],
+    pub turn: [Turn; 32],
+    pub green: [u8; 16],
+    /// Intervals of each link.
+    pub counts: [usize; MOST],
+    /// Edges of each link: 0, the cuts, cap.
+    pub edges: [[u16; 16]; MOST],
+    /// Least arrivals of each link, by box.
+    pub low: [[u16; MOST]; MOST],
+    /// Greatest arrivals of each link, by box.
+    pub high: [[u16; MOST]; MOST],
+    pub cells: usize,
+}
+
+impl Network {
+    /// Cells from one interval of a link to its next.
+    pub fn strides(&self) -> [usize; MOST] {
+        let mut strides = [1; MOST];
+        for link in (0..self.links.saturating_sub(1)).rev() {
+            strides[link] = strides[link + 1] * self.counts[link + 1];
+        }
+        strides
+    }
+
+    /// The interval of each link in a cell.
+    pub fn intervals(&self, cell: usize) -> [usize; MOST] {
+        let mut left = cell;
+        let mut intervals = [0; MOST];
+        for link in (0..self.links).rev() {
+            intervals[link] = left % self.counts[link];
+            left /= self.counts[link];
+        }
+        intervals
+    }
+}
+
+#[derive(Clone, Copy)]
+pub struct Entry {
+    pub cell: u16,
+    pub mode: u8,
+    pub signal: u8,
+    pub next: u8,
+    pub rank: u16,
+}
+
+impl Entry {
+    /// The fields of an EN record.
+    #[inline]
+    pub fn of(record: &[u8; 9]) -> Entry {
+        Entry {
+            cell: u16::from_be_bytes([record[2], record[3]]),
+            mode: record[4],
+            signal: record[5],
+            next: record[6],
+            rank: u16::from_be_bytes([record[7], record[8]]),
+        }
+    }
+}

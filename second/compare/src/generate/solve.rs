@@ -1,0 +1,88 @@
+//! The game of a policy: from which cells and modes the goal can be met again and again, and in how many steps.
+
+/// A signal and the mode that follows.
+pub type Choice = (u8, u8);
+
+/// Pairs of cell and mode are numbered cell × modes + mode.
+pub struct Game {
+    pub cells: usize,
+    pub modes: usize,
+    /// The choices of each mode.
+    pub choices: Vec<Vec<Choice>>,
+    /// Successor cells by cell, then signal; all arrival boxes together.
+    pub successors: Vec<Vec<Vec<u16>>>,
+    pub safe: Vec<bool>,
+    pub goal: Vec<bool>,
+}
+
+/// Steps to the goal of each pair; none for a pair that is not listed.
+pub type Steps = Vec<Option<u16>>;
+
+impl Game {
+    /// The greatest set of pairs whose goal pairs can stay in it and whose other pairs come closer to the goal.
+    pub fn solve(&self) -> Steps {
+        let pairs = self.cells * self.modes;
+        let mut listed: Steps = (0..pairs)
+            .map(|pair| self.safe[pair / self.modes].then_some(0))
+            .collect();
+        loop {
+            let closer = self.steps_within(&listed);
+            let count = |steps: &Steps| steps.iter().flatten().count();
+            if count(&closer) == count(&listed) {
+                return closer;
+            }
+            listed = closer;
+        }
+    }
+
+    /// Steps to goal pairs that can stay among the listed ones.
+    fn steps_within(&self, listed: &Steps) -> Steps {
+        let mut steps: Steps = vec![None; listed.len()];
+        for pair in 0..steps.len() {
+            let stays = |pair| {
+                self.choices_of(pair)
+                    .any(|choice| self.leads(pair, choice, listed, None))
+            };
+            if listed[pair].is_some() && self.goal[pair / self.modes] && stays(pair) {
+                steps[pair] = Some(0);
+            }
+        }
+        for step in 1.. {
+            let mut found = Vec::new();
+            for pair in 0..steps.len() {
+                let open = listed[pair].is_some() && steps[pair].is_none();
+                let nearer = |pair| {
+                    self.choices_of(pair)
+                        .any(|choice| self.leads(pair, choice, &steps, None))
+                };
+                if open && !self.goal[pair / self.modes] && nearer(pair) {
+                    found.push(pair);
+                }
+            }
+            if found.is_empty() {
+                break;
+            }
+            for pair in found {
+                steps[pair] = Some(step);
+            }
+        }
+        steps
+    }
+
+    pub fn choices_of(&self, pair: usize) -> impl Iterator<Item = Choice> + '_ {
+        self.choices[pair % self.modes].iter().copied()
+    }
+
+    /// Does a choice lead to listed pairs only, all of them fewer steps away than `limit`?
+    pub fn leads(&self, pair: usize, choice: Choice, listed: &Steps, limit: Option<u16>) -> bool {
+        let successors = &self.successors[pair / self.modes][usize::from(choice.0)];
+        successors.iter().all(|&cell| {
+            let next = usize::from(cell) * self.modes + usize::from(choice.1);
+            match (listed[next], limit) {
+                (None, _) => false,
+                (Some(steps), Some(limit)) => steps < limit,
+                (Some(_), None) => true,
+            }
+        })
+    }
+}

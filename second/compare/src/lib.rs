@@ -1,0 +1,12 @@
+//! Compares the library with the second checker, and with a plain checker made for speed.
+
+pub mod bench;
+pub mod differential;
+pub mod fast;
+pub mod generate;
+pub mod library;
+pub mod numbers;
+pub mod readings;
+pub mod samples;
+pub mod sides;
+pub mod tally;

@@ -1,0 +1,84 @@
+//! Commands that compare the library with other checkers.
+
+use compare::bench::{self, bench, Row};
+use compare::differential::{differential, shown, Plan};
+use compare::readings::{readings, Extent};
+use std::process::ExitCode;
+
+const USAGE: &str = "\
+usage: compare differential --seed S --loads N --queries M
+       compare reading --all|--part
+       compare bench [--part]
+";
+
+fn main() -> ExitCode {
+    let words: Vec<String> = std::env::args().skip(1).collect();
+    let words: Vec<&str> = words.iter().map(String::as_str).collect();
+    match words[..] {
+        ["differential", ref options @ ..] => match plan(options) {
+            Some(plan) => run_differential(&plan),
+            None => usage(),
+        },
+        ["reading", "--all"] => run_readings(Extent::All),
+        ["reading", "--part"] => run_readings(Extent::Part),
+        ["bench"] => run_bench(bench::Extent::All),
+        ["bench", "--part"] => run_bench(bench::Extent::Part),
+        _ => usage(),
+    }
+}
+
+fn usage() -> ExitCode {
+    eprint!("{USAGE}");
+    ExitCode::from(2)
+}
+
+/// `--seed S --loads N --queries M`, in any order.
+fn plan(options: &[&str]) -> Option<Plan> {
+    let number = |name: &str| {
+        let at = options.iter().position(|&option| option == name)?;
+        options.get(at + 1)?.parse().ok()
+    };
+    let plan = Plan {
+        seed: number("--seed")?,
+        loads: number("--loads")?,
+        queries: number("--queries")?,
+    };
+    (options.len() == 6 && plan.loads > 0).then_some(plan)
+}
+
+fn run_differential(plan: &Plan) -> ExitCode {
+    match differential(plan) {
+        Ok(tally) => {
+            println!("{tally}, 0 differences");
+            ExitCode::SUCCESS
+        }
+        Err(found) => {
+            print!("{}", shown(plan.seed, &found));
+            ExitCode::FAILURE
+        }
+    }
+}
+
+fn run_readings(extent: Extent) -> ExitCode {
+    match readings(extent) {
+        Ok(tried) => {
+            println!("{tried} readings, 0 differences");
+            ExitCode::SUCCESS
+        }
+        Err(difference) => {
+            print!("{difference}");
+            ExitCode::FAILURE
+        }
+    }
+}
+
+fn run_bench(extent: bench::Extent) -> ExitCode {
+    println!("{}", Row::TITLE);
+    match bench(extent, |row| println!("{row}")) {
+        Ok(()) => ExitCode::SUCCESS,
+        Err(what) => {
+            eprintln!("{what}");
+            ExitCode::FAILURE
+        }
+    }
+}

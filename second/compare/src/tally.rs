@@ -1,0 +1,63 @@
+//! How often each result number came.
+
+use std::fmt;
+
+/// Counts of one kind of call by result number.
+#[derive(Clone, Debug, Default)]
+pub struct Numbered([u64; 20]);
+
+impl Numbered {
+    pub fn add(&mut self, number: u32) {
+        self.0[number as usize % 20] += 1;
+    }
+
+    pub fn of(&self, number: usize) -> u64 {
+        self.0[number]
+    }
+
+    pub fn all(&self) -> u64 {
+        self.0.iter().sum()
+    }
+}
+
+impl fmt::Display for Numbered {
+    fn fmt(&self, out: &mut fmt::Formatter<'_>) -> fmt::Result {
+        write!(out, "{} with 0", self.0[0])?;
+        for (number, count) in self.0.iter().enumerate().skip(1) {
+            if *count > 0 {
+                write!(out, ", {count} with {number}")?;
+            }
+        }
+        Ok(())
+    }
+}
+
+/// All calls of a comparison.
+#[derive(Clone, Debug, Default)]
+pub struct Tally {
+    pub loads: Numbered,
+    pub queries: Numbered,
+    pub writes: Numbered,
+    pub listings: Numbered,
+}
+
+impl fmt::Display for Tally {
+    fn fmt(&self, out: &mut fmt::Formatter<'_>) -> fmt::Result {
+        let share = 100.0 * self.loads.of(0) as f64 / self.loads.all().max(1) as f64;
+        writeln!(out, "loads: {} accepted ({share:.1} %)", self.loads.of(0))?;
+        for number in 1..=15 {
+            writeln!(out, "  refused {number}: {}", self.loads.of(number))?;
+        }
+        writeln!(out, "queries: {}", self.queries)?;
+        writeln!(out, "writes: {}", self.writes)?;
+        writeln!(out, "listings: {}", self.listings)?;
+        write!(
+            out,
+            "{} loads, {} queries, {} writes, {} listings",
+            self.loads.all(),
+            self.queries.all(),
+            self.writes.all(),
+            self.listings.all()
+        )
+    }
+}

@@ -1,0 +1,106 @@
+//! The plain checker gives what the second checker gives.
+
+use compare::fast;
+use compare::generate::{bytes::bytes_of, certificate, damaged, Size};
+use compare::numbers::Numbers;
+use compare::samples;
+use second::conditions::read_sound;
+use second::text::encode;
+use second::{listing, Report};
+
+fn screened(bytes: &[u8]) -> Report {
+    match read_sound(bytes) {
+        Ok(_) => Report::SUCCESS,
+        Err(refusal) => refusal,
+    }
+}
+
+fn agrees(bytes: &[u8]) -> Report {
+    let (text, report) = listing(bytes);
+    assert_eq!(fast::judge(bytes), report);
+    assert_eq!(fast::screen(bytes), screened(bytes));
+    let mut buffer = vec![0; text.len()];
+    assert_eq!(fast::listing(bytes, &mut buffer), Some(text.len()));
+    assert_eq!(buffer, text.as_bytes());
+    assert_eq!(fast::listing(bytes, &mut buffer[..text.len() - 1]), None);
+    report
+}
+
+#[test]
+fn on_generated_certificates() {
+    let (mut accepted, mut ranked) = (0, 0);
+    for part in 0..1_500 {
+        let mut numbers = Numbers::of(3, part);
+        let drawn = certificate(&mut numbers, Size::Small);
+        if agrees(&bytes_of(&drawn)).number == 0 {
+            accepted += 1;
+            ranked += usize::from(drawn.entries.iter().any(|entry| entry.rank > 0));
+        }
+        agrees(&damaged(&drawn, &mut numbers));
+        agrees(&damaged(&drawn, &mut numbers));
+    }
+    assert!(accepted > 1_400, "{accepted}");
+    assert!(ranked > 700, "{ranked}");
+}
+
+#[test]
+fn on_large_certificates() {
+    for part in 0..4 {
+        let drawn = certificate(&mut Numbers::of(4, part), Size::Large);
+        agrees(&bytes_of(&drawn));
+    }
+}
+
+/// Every prefix and every byte changed, against the second checker.
+#[test]
+fn on_small_changes() {
+    let listed = samples::listed();
+    let mut numbers = Numbers::of(5, 0);
+    let drawn = bytes_of(&certificate(&mut numbers, Size::Small));
+    for bytes in [listed, drawn] {
+        let bytes = &bytes[..bytes.len().min(400)];
+        for at in 0..bytes.len() {
+            agrees(&bytes[..at]);
+            let mut copy = bytes.to_vec();
+            for change in [1, 255, 128, bytes[at].wrapping_neg()] {
+                copy[at] = bytes[at].wrapping_add(change);
+                agrees(&copy);
+            }
+        }
+    }
+}
+
+/// Sizes and verdicts of the samples; the second checker takes half a minute for each of the last two.
+#[test]
+fn on_samples() {
+    let count = |count| Report::SUCCESS.counting(count);
+    assert_eq!(agrees(&samples::listed()), count(4));
+    let typical = samples::typical();
+    assert_eq!(agrees(&typical).number, 0);
+    assert_eq!(read_sound(&typical).unwrap().entries.len(), 625);
+    let largest = samples::largest();
+    assert_eq!(fast::judge(&largest).number, 0);
+    let read = read_sound(&largest).unwrap();
+    assert_eq!((read.turns.len(), read.entries.len()), (32, 4_096));
+    let worst = samples::worst();
+    assert_eq!(fast::judge(&worst), count(4_096 * 8 * 4_096));
+}
+
+/// The greatest rank is not taken for no entry.
+#[test]
+fn on_the_greatest_rank() {
+    let text = "\
+        link tail 0 head 1 cap 10 flow 10 safe 10 goal 4\n\
+        signal green none\n\
+        signal green 0\n\
+        grid 4\n\
+        arrivals 1-1\n\
+        entry cell 0 mode 0 signal 0 next 0 rank 0\n\
+        entry cell 1 mode 0 signal 1 next 0 rank 65535\n\
+        end\n";
+    let bytes = encode(text).unwrap();
+    assert_eq!(agrees(&bytes), Report::SUCCESS.counting(3));
+    let equal = text.replace("signal 1", "signal 0");
+    let refused = Report::at(15, 1).and(1).counting(3);
+    assert_eq!(agrees(&encode(&equal).unwrap()), refused);
+}
