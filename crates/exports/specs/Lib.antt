@@ -1,1 +1,4 @@
 pub mod Exported
+pub mod State
+pub mod Calls
+pub mod Laws

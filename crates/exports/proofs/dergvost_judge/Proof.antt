@@ -1,0 +1,25 @@
+-- `exports::dergvost_judge` meets its contract: the report is the verdict, where the slice has room. Assumes nothing.
+use native.Mathlib.Omega.{arith}
+use mathlib.Core.Path.{refl}
+use borrow.Author.Needs.{needs}
+use Rattle.exports.proofs.dergvost_judge.Statement.{statement}
+use Rattle.exports.proofs.dergvost_judge.Tie as tie
+
+returns : tie.Need-returns
+returns c = record { filled = λ h. absurd (omega arith); short = λ h. (refl, refl) }
+
+judge-requires : tie.Need-judge-requires
+judge-requires c κs = search needs
+
+put-report-requires : tie.Need-put-report-requires
+put-report-requires c κs = search needs
+
+same-length : tie.Need-same-length
+same-length c = search needs
+
+returns-2 : tie.Need-returns-2
+returns-2 c = record { filled = λ h. (cc, cc); short = λ h. absurd (omega arith) }
+
+pub dergvost-judge-spec : {M : Type 1} → statement M
+dergvost-judge-spec =
+    tie.close (tie.spec returns judge-requires put-report-requires same-length returns-2)

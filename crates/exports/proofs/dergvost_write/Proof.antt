@@ -1,0 +1,43 @@
+-- `exports::dergvost_write` meets its contract: the write's report and its buffer, where both slices are long enough. Assumes nothing.
+use mathlib.Core.Path.{refl}
+use native.Mathlib.Omega.{arith}
+use borrow.Author.Needs.{needs}
+use Rattle.exports.proofs.dergvost_write.Statement.{statement}
+use Rattle.exports.proofs.dergvost_write.Tie as tie
+
+returns : tie.Need-returns
+returns c = record { done = λ h. absurd (omega arith); short = λ h. (refl, refl, refl) }
+
+returns-2 : tie.Need-returns-2
+returns-2 c = record { done = λ h. absurd (omega arith); short = λ h. (refl, refl, refl) }
+
+unpack-requires : tie.Need-unpack-requires
+unpack-requires c κs = search needs
+
+write-requires : tie.Need-write-requires
+write-requires c κs = search needs
+
+put-report-requires : tie.Need-put-report-requires
+put-report-requires c κs = search needs
+
+same-length : tie.Need-same-length
+same-length c = search needs
+
+same-length-2 : tie.Need-same-length-2
+same-length-2 c = search needs
+
+returns-3 : tie.Need-returns-3
+returns-3 c = record { done = λ h. (cc, cc, cc); short = λ h. absurd (h (omega arith, omega arith)) }
+
+pub dergvost-write-spec : {M : Type 1} → statement M
+dergvost-write-spec =
+    tie.close
+    (tie.spec
+    returns
+    returns-2
+    unpack-requires
+    write-requires
+    put-report-requires
+    same-length
+    same-length-2
+    returns-3)
