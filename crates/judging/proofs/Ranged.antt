@@ -26,9 +26,10 @@ use Rattle.grid.proofs.Numbers.{is-choice}
 use Rattle.grid.proofs.Edges.{upper-most, cell-lower-below-upper}
 use Rattle.grid.specs.Successors.{imageLow, imageHigh}
 use Rattle.grid.specs.Tables.{DigitsOf, RangesOf}
+use Rattle.grid.proofs.Images.{image-is-smallest}
 use Rattle.grid.proofs.Ranging.{successor-in-ranges}
 use Rattle.judging.specs.Judging.{isSafe, isRanked, standingFault, follows}
-use Rattle.judging.specs.Tables.{CellEdges, EntryEnds, BoxRanges}
+use Rattle.judging.specs.Tables.{CellEdges, EntryEnds, EntryImage, BoxRanges}
 
 -- the next queue of a link depends on the queues of the network's links alone
 module _ (s : List ℕ) (S : Screened s) (g : ℕ) (hg : g < signalsOf s) where
@@ -69,20 +70,27 @@ ends-are s S e byte g lower upper low high he C eg eb B =
     hg : signalOf s e < signalsOf s
     hg = S .readable .entry e he .signal
 
--- the ends with the arrivals of a box are those of the image, so the ranges that meet them tell the successors
-pub ranges-are : (s : List ℕ) → Screened s → (e b : ℕ) (low high from to first last : List ℕ) → EntryEnds s e low high
+-- the ends with the arrivals of a box are those of the image
+pub image-is : (s : List ℕ) → Screened s → (e b : ℕ) (low high from to : List ℕ) → e < entriesOf s → b < boxesOf s → EntryEnds s e low high
     → ((l : ℕ) → l < linksOf s → getD from l 0 ≡ min (10000 * capOf s l) (getD low l 0 + 10000 * lowOf s b l))
     → ((l : ℕ) → l < linksOf s → getD to l 0 ≡ min (10000 * capOf s l) (getD high l 0 + 10000 * highOf s b l))
+    → EntryImage s e b from to
+unfolding imageLow imageHigh
+image-is s S e b low high from to he hb E lows highs =
+    record {
+      low-is = λ l hl. lows l hl ∙ end-arriving (networkOf s) (limitOf s (signalOf s e)) _ (lowOf s b) l _ _ (E .low-is l hl) refl;
+      high-is = λ l hl. highs l hl ∙ end-arriving (networkOf s) (limitOf s (signalOf s e)) _ (highOf s b) l _ _ (E .high-is l hl) refl;
+      smallest = image-is-smallest s S (signalOf s e) b (cellOf s e) (S .readable .entry e he .signal) hb;
+    }
+
+-- so the ranges that meet it tell the successors
+pub ranges-are : (s : List ℕ) → Screened s → (e b : ℕ) (from to first last : List ℕ) → EntryImage s e b from to
     → RangesOf s from to first last → BoxRanges s e b first last
-unfolding follows imageLow imageHigh
-ranges-are s S e b low high from to first last E lows highs R =
+unfolding follows
+ranges-are s S e b from to first last I R =
     record {
       bounded = R .bounded;
-      meet =
-          successor-in-ranges s (S .readable) (signalOf s e) b (cellOf s e) from to first last
-          (λ l hl. lows l hl ∙ end-arriving (networkOf s) (limitOf s (signalOf s e)) _ (lowOf s b) l _ _ (E .low-is l hl) refl)
-          (λ l hl. highs l hl ∙ end-arriving (networkOf s) (limitOf s (signalOf s e)) _ (highOf s b) l _ _ (E .high-is l hl) refl)
-          R;
+      meet = successor-in-ranges s (S .readable) (signalOf s e) b (cellOf s e) from to first last (I .low-is) (I .high-is) R;
     }
 
 -- an interval that is read from the table of cells exists, and stands within the tables

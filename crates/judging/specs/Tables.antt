@@ -12,7 +12,9 @@ use Rattle.network.specs.Image.{lowCorner, highCorner}
 use Rattle.network.specs.Laws.{Screened}
 use Rattle.network.specs.Roads.{FirstTurns}
 use Rattle.grid.specs.Cells.{lowerOf, upperOf}
-use Rattle.grid.specs.Tables.{EdgesOf, DigitsOf, GridOf, Bounded, inRanges}
+use Rattle.grid.specs.Successors.{imageLow, imageHigh}
+use Rattle.grid.specs.Laws.{ImageOf}
+use Rattle.grid.specs.Tables.{Holds, EdgesOf, DigitsOf, GridOf, Bounded, inRanges}
 use Rattle.judging.specs.Lookup.{IsIndex}
 use Rattle.judging.specs.Judging.{follows}
 
@@ -40,6 +42,12 @@ pub record EntryEnds (s : List ℕ) (e : ℕ) (low high : List ℕ) : Type 0 whe
       → getD high l 0 ≡ gross (networkOf s) (limitOf s (signalOf s e)) 1 (highCorner (networkOf s) l (lowerOf s (cellOf s e)) (upperOf s (cellOf s e))) (λ _. 0) l
   pub low-most : (l : ℕ) → l < linksOf s → getD low l 0 ≤ 10000000000
   pub high-most : (l : ℕ) → l < linksOf s → getD high l 0 ≤ 10000000000
+
+-- the image of entry e's cell under its signal and box b: low and high are its ends, and it is the smallest box (grid `ImageOf`)
+pub record EntryImage (s : List ℕ) (e b : ℕ) (low high : List ℕ) : Type 0 where
+  pub low-is : Holds (linksOf s) (imageLow s (signalOf s e) b (cellOf s e)) low
+  pub high-is : Holds (linksOf s) (imageHigh s (signalOf s e) b (cellOf s e)) high
+  pub smallest : ImageOf s (signalOf s e) b (cellOf s e)
 
 -- the ranges of intervals by which the successors of entry e under box b are known
 pub record BoxRanges (s : List ℕ) (e b : ℕ) (first last : List ℕ) : Type 0 where

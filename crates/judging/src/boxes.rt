@@ -6,7 +6,7 @@ ghost use Rattle.certificate.specs.Layout.{linksOf, capOf, boxesOf, lowOf, high
 ghost use Rattle.certificate.specs.Laid.{LaidOut};
 ghost use Rattle.network.specs.Laws.{Screened};
 ghost use Rattle.grid.specs.Tables.{EdgesOf, CountsOf};
-ghost use Rattle.judging.specs.Tables.{EntryEnds, BoxRanges};
+ghost use Rattle.judging.specs.Tables.{EntryEnds, EntryImage, BoxRanges};
 use certificate::arrivals;
 use certificate::reading::Layout;
 use grid::ranges;
@@ -38,6 +38,26 @@ fn high_ends(s: &[u8], layout: Layout, high: &[usize; 8], b: usize) -> [usize; 8
     r
 }
 
+// The image of entry e's cell under its signal and box b: the smallest closed box that holds all exact next queues.
+fn image_of(
+    s: &[u8],
+    layout: Layout,
+    low: &[usize; 8],
+    high: &[usize; 8],
+    e: usize,
+    b: usize,
+) -> ends::Ends
+    requires { ⌜ Screened (now s) × LaidOut (now s) layout × EntryEnds (now s) e (now low) (now high) × (e < entriesOf (now s)) × (b < boxesOf (now s)) ⌝ }
+    ensures { λ r. ⌜ EntryImage (now (s .entry)) e b (r .low) (r .high) ⌝ }
+{
+    let from = low_ends(s, layout, low, b);
+    let to = high_ends(s, layout, high, b);
+    ends::Ends {
+        low: from,
+        high: to,
+    }
+}
+
 pub fn box_ranges(
     s: &[u8],
     layout: Layout,
@@ -51,7 +71,8 @@ pub fn box_ranges(
     requires { ⌜ Screened (now s) × LaidOut (now s) layout × EdgesOf (now s) (now edges) × CountsOf (now s) (now counts) × EntryEnds (now s) e (now low) (now high) × (e < entriesOf (now s)) × (b < boxesOf (now s)) ⌝ }
     ensures { λ r. ⌜ BoxRanges (now (s .entry)) e b (r .first) (r .last) ⌝ }
 {
-    let from = low_ends(s, layout, low, b);
-    let to = high_ends(s, layout, high, b);
+    let image = image_of(s, layout, low, high, e, b);
+    let from = image.low;
+    let to = image.high;
     ranges::ranges_of(s, edges, counts, layout.links, &from, &to)
 }
