@@ -10,13 +10,12 @@ use lib.ListN.{length}
 use lib.Dec.{ltb}
 use Rattle.certificate.specs.declared.Report.{Report}
 use Rattle.certificate.specs.Octets.{_also_}
-use Rattle.certificate.specs.Checks.{refusal, fine, firstBad, opened}
+use Rattle.certificate.specs.Checks.{refusal, fine, need, orElse, firstBad, opened}
 use Rattle.certificate.specs.Layout.{capOf, gridSize, countAt, cutAt, gridAt, intervalsOf}
 use Rattle.certificate.specs.Records.{cutBefore, cutOk, cutFault, countOk, gridFault}
 use Rattle.certificate.specs.Laid.{cutsFault}
-use Rattle.certificate.proofs.Tests.{need-pass, need-fail}
-use Rattle.certificate.proofs.Says.{says}
-use Rattle.certificate.proofs.Cases.{not-yes, not-no, pass, fail, first, second}
+use Rattle.certificate.proofs.Tests.{need-pass, need-fail, need-or, or-next}
+use Rattle.certificate.proofs.Cases.{pass, fail, first, second}
 
 -- one cut: `before` is the cut before it
 module _ (s : List ℕ) (l i : ℕ) {o cap before cut : ℕ} (here : o ≡ gridAt s l) (room : cap ≡ capOf s l) (last : before ≡ cutBefore s l i) (this : cut ≡ cutAt s o i) where
@@ -36,7 +35,7 @@ module _ (s : List ℕ) (l i : ℕ) {o cap before cut : ℕ} (here : o ≡ gridA
   unfolding cutBefore
   cut-next = rw (add-one, this, here)
 
--- the cuts of a record whose count is right
+-- the cuts of a record
 module _ (s : List ℕ) (l : ℕ) {o count : ℕ} (here : o ≡ gridAt s l) (many : count ≡ countAt s o) where
   due : o + (1 + 2 * count) ≡ gridAt s l + gridSize (intervalsOf s l)
   due = rw (many, here)
@@ -44,8 +43,8 @@ module _ (s : List ℕ) (l : ℕ) {o count : ℕ} (here : o ≡ gridAt s l) (man
   pub cuts-absent : {r : Report} → length s < o + (1 + 2 * count) → r ≡ refusal 1 o → r ≡ cutsFault s l
   cuts-absent h e = fail _ _ _ _ (rw (← due) (lt-leb (o + (1 + 2 * count)) (length s) h)) (e ∙ ap (refusal 1) here)
 
-  pub cuts-present : {r : Report} → o + (1 + 2 * count) ≤ length s → r ≡ firstBad (count - 1) (cutFault s l) → r ≡ cutsFault s l
-  cuts-present h e = pass _ _ _ _ (rw (← due) (le-leb (o + (1 + 2 * count)) (length s) h)) (e ∙ rw (many, here))
+  pub cuts-present : {n : ℕ} {r : Report} → o + (1 + 2 * count) ≤ length s → n ≡ count - 1 → r ≡ firstBad n (cutFault s l) → r ≡ cutsFault s l
+  cuts-present h d e = pass _ _ _ _ (rw (← due) (le-leb (o + (1 + 2 * count)) (length s) h)) (e ∙ rw (d, many, here))
 
 -- the record of one link
 module _ (s : List ℕ) (l : ℕ) {o : ℕ} (here : o ≡ gridAt s l) where
@@ -57,14 +56,7 @@ module _ (s : List ℕ) (l : ℕ) {o : ℕ} (here : o ≡ gridAt s l) where
     unfolding gridFault
     grid-unopened h = first _ _ _ there h
 
-    pub grid-miscounted : {b : Bool} {r : Report} → f .number ≡ 0 → b ≡ countOk s l → not b ≡ true → r ≡ refusal 7 o → r ≡ gridFault s l
+    -- the count, then the cuts
+    pub grid-counted : {b : Bool} {counted cut r : Report} → f .number ≡ 0 → b ≡ countOk s l → counted ≡ orElse f (need b (refusal 7 o) fine) → cut ≡ cutsFault s l → r ≡ orElse counted cut → r ≡ gridFault s l
     unfolding gridFault
-    grid-miscounted {b} h e n q = second f _ _ _ there h (fail _ _ _ _ (not-yes b _ e n) (q ∙ ap (refusal 7) here))
-
-    pub grid-counted : {b : Bool} {r : Report} → f .number ≡ 0 → b ≡ countOk s l → not b ≡ false → r ≡ cutsFault s l → r ≡ gridFault s l
-    unfolding gridFault
-    grid-counted {b} h e n q = second f _ _ _ there h (pass _ _ _ _ (not-no b _ e n) q)
-
-  pub count-least : {b : Bool} → b ≡ countOk s l → not b ≡ false → 1 ≤ countAt s o
-  unfolding countOk
-  count-least {b} e n = rw here (let h = simp says at (not-no b _ e n) in omega arith)
+    grid-counted {b} z e p q t = second f _ _ _ there z (t ∙ rw (p, or-next f (need b (refusal 7 o) fine) z, q, need-or b 7 o (cutsFault s l) refl, e, here))

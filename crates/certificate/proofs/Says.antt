@@ -2,7 +2,7 @@
 use Prim.Native.Nat.{ℕ, _+_, _≤_, _<_}
 use mathlib.Core.Bool.{Bool, true, false, not, _&&_}
 use mathlib.Core.List.{List}
-use mathlib.Core.Path.{_≡_}
+use mathlib.Core.Path.{_≡_, refl}
 use mathlib.Core.Logic.{_↔_}
 use native.Mathlib.Omega.{arith}
 use borrow.Author.Tests.{ltb-true, leb-true, eqb-true, eqb-false, not-true, lt-ltb, le-leb, eq-eqb, ne-eqb}
@@ -10,7 +10,7 @@ use lib.ListN.{length}
 use lib.Dec.{ltb, leb, eqb}
 use Rattle.certificate.specs.declared.Report.{Report}
 use Rattle.certificate.specs.Octets.{_also_}
-use Rattle.certificate.specs.Checks.{refusal, need, orElse, firstBad, marked, opened}
+use Rattle.certificate.specs.Checks.{refusal, fine, need, orElse, firstBad, marked, opened}
 use Rattle.certificate.specs.Facts.{Mark}
 use Rattle.certificate.proofs.Tests.{and-both, both-and, also-both, both-also, need-both, need-pass, or-both, both-or, all-fine, fine-all}
 
@@ -48,5 +48,10 @@ pub ruleset tests-say = (leb-says, ltb-says, eqb-says, differ-says, and-says, al
 pub opened-says : (s : List ℕ) (o m k size : ℕ) → leb 2 size ≡ true → (opened s o m k size .number ≡ 0) ↔ ((o + size ≤ length s) × Mark s o m k)
 unfolding opened marked
 opened-says s o m k size z = let h : 2 ≤ size = leb-true _ _ z in simp tests-say (omega arith)
+
+pub opened-fine : (s : List ℕ) (o m k size : ℕ) → 2 ≤ size → o + size ≤ length s → marked s o m k ≡ true → opened s o m k size ≡ fine
+unfolding opened
+opened-fine s o m k size two whole mark =
+    rw (le-leb (o + 2) (length s) (omega arith), mark, le-leb (o + size) (length s) whole, need-pass true (refusal 1 o) (need true (refusal 2 o) (need true (refusal 1 o) fine)) refl, need-pass true (refusal 2 o) (need true (refusal 1 o) fine) refl, need-pass true (refusal 1 o) fine refl)
 
 pub ruleset says = (tests-say, opened-says)

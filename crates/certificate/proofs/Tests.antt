@@ -9,7 +9,7 @@ use borrow.Author.Tests.{eqb-true, eqb-false, eq-eqb, ne-eqb}
 use lib.Dec.{eqb}
 use Rattle.certificate.specs.declared.Report.{Report}
 use Rattle.certificate.specs.Octets.{_also_}
-use Rattle.certificate.specs.Checks.{fine, need, orElse, firstOf, firstFrom, firstBad}
+use Rattle.certificate.specs.Checks.{refusal, fine, need, orElse, firstOf, firstFrom, firstBad}
 
 -- a chain of tests, and each of them
 pub and-both : (a b : Bool) → (a && b) ≡ true → (a ≡ true) × (b ≡ true)
@@ -49,6 +49,11 @@ or-next f g z = rw (eq-eqb (f .number) 0 z)
 pub or-stop : (f g : Report) → (f .number ≡ 0 → ⊥) → orElse f g ≡ f
 unfolding orElse
 or-stop f g z = rw (ne-eqb (f .number) 0 z)
+
+pub need-or : (b : Bool) (n o : ℕ) (g : Report) → eqb n 0 ≡ false → orElse (need b (refusal n o) fine) g ≡ need b (refusal n o) g
+unfolding need orElse
+need-or true n o g z = refl
+need-or false n o g z = rw z
 
 by-number : (b : Bool) (f g : Report) → eqb (f .number) 0 ≡ b → orElse f g .number ≡ 0 → (f .number ≡ 0) × (g .number ≡ 0)
 unfolding orElse

@@ -1,5 +1,5 @@
 -- What reading carries along from one record to the next.
-use Prim.Native.Nat.{ℕ, _-_, _≤_, _<_}
+use Prim.Native.Nat.{ℕ, _+_, _*_, _-_, _≤_, _<_}
 use mathlib.Core.Bool.{Bool}
 use mathlib.Core.List.{List}
 use mathlib.Core.Path.{_≡_}
@@ -22,7 +22,14 @@ pub record SharesBefore (s : List ℕ) (t before : ℕ) : Type 0 where
   pub total : 0 < t → before ≡ shareTotal s (t - 1)
   pub most : before ≤ 100
 
--- (cell, mode) is the pair of the entry before entry e, where there is one
-pub record PairBefore (s : List ℕ) (e cell mode : ℕ) : Type 0 where
-  pub cell-is : 0 < e → cell ≡ cellOf s (e - 1)
-  pub mode-is : 0 < e → mode ≡ modeOf s (e - 1)
+-- key is the pair of entry e as one number, cell × 256 + mode
+pub record IsKey (s : List ℕ) (e key : ℕ) : Type 0 where
+  pub is : key ≡ cellOf s e * 256 + modeOf s e
+  pub mode-most : modeOf s e < 256
+  pub most : key < 16777216
+
+-- `least` is one above the key of the entry before entry e, and 0 where there is none
+pub record KeyBefore (s : List ℕ) (e least : ℕ) : Type 0 where
+  pub none : e ≡ 0 → least ≡ 0
+  pub some : 0 < e → 1 ≤ least
+  pub after : 0 < e → IsKey s (e - 1) (least - 1)

@@ -1,15 +1,15 @@
 // EN: one record an entry of the policy, its fields and its tests. `start` is where the records of entries begin.
 ghost use mathlib.Core.Path.{_≡_};
-ghost use Prim.Native.Nat.{_<_, _≤_};
-ghost use Rattle.certificate.specs.Checks.{firstBad};
-ghost use Rattle.certificate.specs.Layout.{entriesStart, cellOf, modeOf, signalOf, nextModeOf, rankOf};
+ghost use Prim.Native.Nat.{_+_, _<_, _≤_};
+ghost use lib.ListN.{length};
+ghost use Rattle.certificate.specs.Checks.{fine, firstFrom, firstBad};
+ghost use Rattle.certificate.specs.Layout.{entriesStart, entryAt, entrySize, cellOf, modeOf, signalOf, nextModeOf, rankOf};
 ghost use Rattle.certificate.specs.Records.{entryOk, entryFault};
-ghost use Rattle.certificate.specs.Carried.{PairBefore};
+ghost use Rattle.certificate.specs.Carried.{IsKey, KeyBefore};
 ghost use Rattle.certificate.specs.Laid.{CountsOf};
 use crate::Report;
 use crate::limits;
 use crate::octets;
-use crate::pairs;
 
 // How many signals, modes and cells there are.
 pub struct Counts {
@@ -53,42 +53,90 @@ pub fn rank_of(s: &[u8], start: usize, e: usize) -> usize
     octets::u16_at(s, start + limits::ENTRY_SIZE * e + 7)
 }
 
-// The tests of entry e; (cell, mode) is the pair of the entry before it.
-fn entry_ok(s: &[u8], start: usize, counts: Counts, e: usize, cell: usize, mode: usize) -> bool
-    requires { ⌜ (e < 65536) × (start ≤ 100000) × (start ≡ entriesStart (now s)) × CountsOf (now s) counts × PairBefore (now s) e cell mode ⌝ }
+// The pair of the entry at o, which is there whole, as one number: cell × 256 + mode.
+fn key_at(s: &[u8], o: usize, e: usize) -> usize
+    requires { ⌜ (o ≤ 900000) × (o ≡ entryAt (now s) e) × (o + entrySize ≤ length (now s)) ⌝ }
+    ensures { λ r. ⌜ IsKey (now (s .entry)) e r ⌝ }
+{
+    octets::u16_within(s, o + 2) * 256 + octets::byte_within(s, o + 4)
+}
+
+// The tests of the entry at o, which is there whole and has that key; `least` is above the key of the entry before it.
+fn entry_ok(s: &[u8], o: usize, counts: Counts, e: usize, key: usize, least: usize) -> bool
+    requires { ⌜ (o ≤ 900000) × (o ≡ entryAt (now s) e) × (o + entrySize ≤ length (now s)) × (counts .cells ≤ 4096) × CountsOf (now s) counts × IsKey (now s) e key × KeyBefore (now s) e least ⌝ }
     ensures { λ r. ⌜ r ≡ entryOk (now (s .entry)) e ⌝ }
 {
-    let own_cell = cell_of(s, start, e);
-    let own_mode = mode_of(s, start, e);
-    (own_cell < counts.cells)
-        & (own_mode < counts.modes)
-        & (signal_of(s, start, e) < counts.signals)
-        & (next_mode_of(s, start, e) < counts.modes)
-        & ((e == 0) | pairs::pair_below(cell, mode, own_cell, own_mode))
+    (key < counts.cells * 256)
+        & (key % 256 < counts.modes)
+        & (octets::byte_within(s, o + 5) < counts.signals)
+        & (octets::byte_within(s, o + 6) < counts.modes)
+        & (least <= key)
 }
 
-fn check_entry(s: &[u8], start: usize, counts: Counts, e: usize, cell: usize, mode: usize) -> Report
-    requires { ⌜ (e < 65536) × (start ≤ 100000) × (start ≡ entriesStart (now s)) × CountsOf (now s) counts × PairBefore (now s) e cell mode ⌝ }
+// A quick yes for the record at o: it is there whole, its mark is right, and its tests pass. One above its key then, else 0.
+fn quick(s: &[u8], o: usize, counts: Counts, e: usize, least: usize) -> usize
+    requires { ⌜ (o ≤ 900000) × (o ≡ entryAt (now s) e) × (counts .cells ≤ 4096) × CountsOf (now s) counts × KeyBefore (now s) e least ⌝ }
+    ensures { λ r. ⌜ ((r ≡ 0 → ⊥) → (fine ≡ entryFault (now (s .entry)) e) × KeyBefore (now (s .entry)) (e + 1) r) ⌝ }
+{
+    if s.len() < o + limits::ENTRY_SIZE {
+        return 0;
+    }
+    let key = key_at(s, o, e);
+    if octets::marked_as(s, o, 69, 78) & entry_ok(s, o, counts, e, key, least) {
+        return key + 1;
+    }
+    0
+}
+
+// The record at o by its tests one after another.
+fn check_entry(s: &[u8], o: usize, counts: Counts, e: usize, least: usize) -> Report
+    requires { ⌜ (o ≤ 900000) × (o ≡ entryAt (now s) e) × (counts .cells ≤ 4096) × CountsOf (now s) counts × KeyBefore (now s) e least ⌝ }
     ensures { λ r. ⌜ r ≡ entryFault (now (s .entry)) e ⌝ }
 {
-    let o = start + limits::ENTRY_SIZE * e;
     let opening = octets::check_opened(s, o, 69, 78, limits::ENTRY_SIZE);
-    octets::record_result(opening, entry_ok(s, start, counts, e, cell, mode), 9, o)
+    if opening.number != 0 {
+        return opening;
+    }
+    let key = key_at(s, o, e);
+    octets::record_result(opening, entry_ok(s, o, counts, e, key, least), 9, o)
 }
 
-pub fn check_entries(s: &[u8], start: usize, counts: Counts, entries: usize) -> Report
-    requires { ⌜ (entries < 65536) × (start ≤ 100000) × (start ≡ entriesStart (now s)) × CountsOf (now s) counts ⌝ }
-    ensures { λ r. ⌜ r ≡ firstBad entries (entryFault (now (s .entry))) ⌝ }
+// The records from entry `from` on.
+fn check_from(
+    s: &[u8],
+    start: usize,
+    counts: Counts,
+    entries: usize,
+    from: usize,
+    least: usize,
+) -> Report
+    requires { ⌜ (entries < 65536) × (start ≤ 100000) × (start ≡ entriesStart (now s)) × (counts .cells ≤ 4096) × CountsOf (now s) counts × KeyBefore (now s) from least ⌝ }
+    ensures { λ r. ⌜ r ≡ firstFrom entries (entryFault (now (s .entry))) from ⌝ }
 {
-    let mut cell = 0;
-    let mut mode = 0;
-    for e in 0..entries {
-        let f = check_entry(s, start, counts, e, cell, mode);
+    let mut above = least;
+    for e in from..entries {
+        let o = start + limits::ENTRY_SIZE * e;
+        let f = check_entry(s, o, counts, e, above);
         if f.number != 0 {
             return f;
         }
-        cell = cell_of(s, start, e);
-        mode = mode_of(s, start, e);
+        above = key_at(s, o, e) + 1;
+    }
+    octets::accept()
+}
+
+// The records of all entries: quickly as long as the quick test says yes, and with care from there on.
+pub fn check_entries(s: &[u8], start: usize, counts: Counts, entries: usize) -> Report
+    requires { ⌜ (entries < 65536) × (start ≤ 100000) × (start ≡ entriesStart (now s)) × (counts .cells ≤ 4096) × CountsOf (now s) counts ⌝ }
+    ensures { λ r. ⌜ r ≡ firstBad entries (entryFault (now (s .entry))) ⌝ }
+{
+    let mut least = 0;
+    for e in 0..entries {
+        let next = quick(s, start + limits::ENTRY_SIZE * e, counts, e, least);
+        if next == 0 {
+            return check_from(s, start, counts, entries, e, least);
+        }
+        least = next;
     }
     octets::accept()
 }

@@ -60,16 +60,22 @@ fn count_ok(s: &[u8], l: usize, o: usize, product: usize) -> bool
     (1 <= count) & (count <= limits::MAX_INTERVALS) & (product * count <= limits::MAX_CELLS)
 }
 
-// The cuts of link l, once its count is right: all present, and in order.
+fn one_less(n: usize) -> usize
+    ensures { λ r. ⌜ r ≡ n - 1 ⌝ }
+{
+    if n == 0 { 0 } else { n - 1 }
+}
+
+// The cuts of link l: all present, and in order.
 fn check_cuts_of(s: &[u8], l: usize, o: usize) -> Report
-    requires { ⌜ (l < 256) × (o ≤ 100000) × (o ≡ gridAt (now s) l) × (1 ≤ countAt (now s) o) ⌝ }
+    requires { ⌜ (l < 256) × (o ≤ 100000) × (o ≡ gridAt (now s) l) ⌝ }
     ensures { λ r. ⌜ r ≡ cutsFault (now (s .entry)) l ⌝ }
 {
     let count = count_at(s, o);
     if s.len() < o + (1 + 2 * count) {
         return octets::refuse(1, o);
     }
-    check_cuts(s, l, o, links::cap_of(s, l), count - 1)
+    check_cuts(s, l, o, links::cap_of(s, l), one_less(count))
 }
 
 // The record of link l at o; `product` is that of the counts before it.
@@ -81,10 +87,9 @@ fn check_grid(s: &[u8], l: usize, o: usize, product: usize) -> Report
     if f.number != 0 {
         return f;
     }
-    if !count_ok(s, l, o, product) {
-        return octets::refuse(7, o);
-    }
-    check_cuts_of(s, l, o)
+    let counted = octets::record_result(f, count_ok(s, l, o, product), 7, o);
+    let cut = check_cuts_of(s, l, o);
+    octets::or_else(counted, cut)
 }
 
 // The records of all links, the first at `start`.

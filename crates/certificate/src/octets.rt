@@ -1,6 +1,7 @@
 // Bytes at an offset, and the opening of a record: mark present, mark right, record whole.
 ghost use mathlib.Core.Path.{_≡_};
-ghost use Prim.Native.Nat.{_<_, _≤_};
+ghost use Prim.Native.Nat.{_+_, _<_, _≤_};
+ghost use lib.ListN.{length};
 ghost use Rattle.certificate.specs.Octets.{byteAt, u16At};
 ghost use Rattle.certificate.specs.Checks.{refusal, fine, need, orElse, marked, opened};
 use crate::Report;
@@ -26,6 +27,21 @@ pub fn u16_at(s: &[u8], at: usize) -> usize
     byte_at(s, at) * 256 + byte_at(s, at + 1)
 }
 
+// The same where the offset is known to lie within: no test.
+pub fn byte_within(s: &[u8], at: usize) -> usize
+    requires { ⌜ at < length (now s) ⌝ }
+    ensures { λ r. ⌜ (r ≡ byteAt (now (s .entry)) at) × (r < 256) ⌝ }
+{
+    wide(s[at])
+}
+
+pub fn u16_within(s: &[u8], at: usize) -> usize
+    requires { ⌜ (at ≤ 1000000) × (at + 1 < length (now s)) ⌝ }
+    ensures { λ r. ⌜ (r ≡ u16At (now (s .entry)) at) × (r < 65536) ⌝ }
+{
+    byte_within(s, at) * 256 + byte_within(s, at + 1)
+}
+
 pub fn accept() -> Report
     ensures { λ r. ⌜ r ≡ fine ⌝ }
 {
@@ -49,11 +65,12 @@ pub fn refuse(number: u8, a: usize) -> Report
     }
 }
 
-fn marked_as(s: &[u8], o: usize, m: usize, k: usize) -> bool
-    requires { ⌜ o ≤ 1000000 ⌝ }
+// The two-byte mark at o is m and k.
+pub fn marked_as(s: &[u8], o: usize, m: usize, k: usize) -> bool
+    requires { ⌜ (o ≤ 1000000) × (o + 2 ≤ length (now s)) ⌝ }
     ensures { λ r. ⌜ r ≡ marked (now (s .entry)) o m k ⌝ }
 {
-    (byte_at(s, o) == m) & (byte_at(s, o + 1) == k)
+    (byte_within(s, o) == m) & (byte_within(s, o + 1) == k)
 }
 
 // The record at o: its mark m k present (1), right (2), and all of its size there (1).
@@ -71,6 +88,16 @@ pub fn check_opened(s: &[u8], o: usize, m: usize, k: usize, size: usize) -> Repo
         return refuse(1, o);
     }
     accept()
+}
+
+// The first result where it refuses, else the second.
+pub fn or_else(first: Report, second: Report) -> Report
+    ensures { λ r. ⌜ r ≡ orElse first second ⌝ }
+{
+    if first.number != 0 {
+        return first;
+    }
+    second
 }
 
 // A record's result: its opening where that refuses, else the refusal of that number where its fields are not as they must be.

@@ -1,9 +1,10 @@
 // TN: one record a turn, its fields and its tests. `start` is where the records of turns begin.
 ghost use mathlib.Core.Bool.{true};
 ghost use mathlib.Core.Path.{_≡_};
-ghost use Prim.Native.Nat.{_<_, _≤_};
+ghost use Prim.Native.Nat.{_+_, _<_, _≤_};
+ghost use lib.ListN.{length};
 ghost use Rattle.certificate.specs.Checks.{firstBad};
-ghost use Rattle.certificate.specs.Layout.{linksOf, turnsStart, fromOf, toOf, shareOf, pullOf};
+ghost use Rattle.certificate.specs.Layout.{linksOf, turnsStart, turnAt, turnSize, fromOf, toOf, shareOf, pullOf};
 ghost use Rattle.certificate.specs.Carried.{SharesBefore, turnFits};
 ghost use Rattle.certificate.specs.Records.{turnAscends, shareTotal, turnOk, turnFault};
 use crate::Report;
@@ -38,6 +39,35 @@ pub fn pull_of(s: &[u8], start: usize, t: usize) -> usize
     ensures { λ r. ⌜ (r ≡ pullOf (now (s .entry)) t) × (r < 65536) ⌝ }
 {
     octets::u16_at(s, start + limits::TURN_SIZE * t + 5)
+}
+
+// The same fields of a turn that is there whole: no test.
+pub fn from_within(s: &[u8], start: usize, t: usize) -> usize
+    requires { ⌜ (t < 256) × (start ≤ 100000) × (start ≡ turnsStart (now s)) × (turnAt (now s) t + turnSize ≤ length (now s)) ⌝ }
+    ensures { λ r. ⌜ (r ≡ fromOf (now (s .entry)) t) × (r < 256) ⌝ }
+{
+    octets::byte_within(s, start + limits::TURN_SIZE * t + 2)
+}
+
+pub fn to_within(s: &[u8], start: usize, t: usize) -> usize
+    requires { ⌜ (t < 256) × (start ≤ 100000) × (start ≡ turnsStart (now s)) × (turnAt (now s) t + turnSize ≤ length (now s)) ⌝ }
+    ensures { λ r. ⌜ (r ≡ toOf (now (s .entry)) t) × (r < 256) ⌝ }
+{
+    octets::byte_within(s, start + limits::TURN_SIZE * t + 3)
+}
+
+pub fn share_within(s: &[u8], start: usize, t: usize) -> usize
+    requires { ⌜ (t < 256) × (start ≤ 100000) × (start ≡ turnsStart (now s)) × (turnAt (now s) t + turnSize ≤ length (now s)) ⌝ }
+    ensures { λ r. ⌜ (r ≡ shareOf (now (s .entry)) t) × (r < 256) ⌝ }
+{
+    octets::byte_within(s, start + limits::TURN_SIZE * t + 4)
+}
+
+pub fn pull_within(s: &[u8], start: usize, t: usize) -> usize
+    requires { ⌜ (t < 256) × (start ≤ 100000) × (start ≡ turnsStart (now s)) × (turnAt (now s) t + turnSize ≤ length (now s)) ⌝ }
+    ensures { λ r. ⌜ (r ≡ pullOf (now (s .entry)) t) × (r < 65536) ⌝ }
+{
+    octets::u16_within(s, start + limits::TURN_SIZE * t + 5)
 }
 
 // The pair of turn t is above that of the turn before it.

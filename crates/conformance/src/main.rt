@@ -20,18 +20,14 @@ fn made(bytes: &[u8], len: usize, mode: u8) -> Controller {
     }
 }
 
-fn write(state: Controller, size: usize, start: usize) {
-    let mut lent = [0u8; input::MOST_LENT];
-    calls::do_write(state, &mut lent, size, start);
-}
-
-fn list(bytes: &[u8]) {
-    let mut text = [0u8; input::MOST_LENT];
-    calls::do_list(bytes, &mut text);
-}
-
-// Makes a call, prints its line, and answers the next state.
-fn answer(state: Controller, call: Call, bytes: &[u8], queues: &[u32]) -> Controller {
+// Makes a call, prints its line, and answers the next state. Writes and listings are lent a buffer.
+fn answer(
+    state: Controller,
+    call: Call,
+    bytes: &[u8],
+    queues: &[u32],
+    lent: &mut [u8],
+) -> Controller {
     let mark = call.mark;
     let n = call.n;
     match mark {
@@ -40,11 +36,11 @@ fn answer(state: Controller, call: Call, bytes: &[u8], queues: &[u32]) -> Contro
         b'L' => calls::do_load(state, parts::front(bytes, n)),
         b'Q' => calls::do_query(state, parts::front_numbers(queues, n), call.scale),
         b'W' => {
-            write(state, n, call.start);
+            calls::do_write(state, lent, n, call.start);
             state
         }
         _ => {
-            list(parts::front(bytes, n));
+            calls::do_list(parts::front(bytes, n), lent);
             state
         }
     }
@@ -53,6 +49,7 @@ fn answer(state: Controller, call: Call, bytes: &[u8], queues: &[u32]) -> Contro
 fn main() {
     let mut bytes = [0u8; input::MOST_BYTES];
     let mut queues = [0u32; input::MOST_QUEUES];
+    let mut lent = [0u8; input::MOST_LENT];
     let mut state = Controller::fresh();
     let mut cases = 0;
     let mut turns = u64::MAX;
@@ -72,7 +69,7 @@ fn main() {
                 output::text(b"the stream is broken\n");
                 return;
             }
-            state = answer(state, call, &bytes, &queues);
+            state = answer(state, call, &bytes, &queues, &mut lent);
         }
     }
 }

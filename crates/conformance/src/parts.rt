@@ -1,4 +1,6 @@
 // Parts of slices.
+ghost use Prim.Native.Nat.{_≤_};
+use controller::filling;
 
 // The first n elements, or none where there are fewer.
 pub fn front(bytes: &[u8], n: usize) -> &[u8] {
@@ -15,15 +17,14 @@ pub fn front_numbers(numbers: &[u32], n: usize) -> &[u32] {
     &numbers[0..0]
 }
 
-fn byte_at(bytes: &[u8], i: usize) -> u8 {
-    if i < bytes.len() { bytes[i] } else { 0 }
+// The smaller of two numbers.
+fn least(a: usize, b: usize) -> usize
+    ensures { λ r. ⌜ (r ≤ a) × (r ≤ b) ⌝ }
+{
+    if a < b { a } else { b }
 }
 
-// The bytes, then zeros.
+// As many bytes as there is room for into the front of a slice.
 pub fn copy(bytes: &[u8], to: &mut [u8]) {
-    let mut i = 0;
-    while i < to.len() {
-        to[i] = byte_at(bytes, i);
-        i += 1;
-    }
+    filling::put(bytes, least(bytes.len(), to.len()), to);
 }

@@ -13,7 +13,7 @@ use Rattle.certificate.proofs.Says.{tests-say}
 use Rattle.judging.proofs.Deciding.{Tells, tells-split, tells-false}
 use Rattle.controller.specs.declared.Controller.{Controller}
 use Rattle.controller.specs.State.{stored, holdsCertificate}
-use Rattle.controller.specs.Write.{hasRoom, writeFault, writeReport, writeBuffer}
+use Rattle.controller.specs.Write.{storing, hasRoom, writeFault, writeReport, writeBuffer}
 use Rattle.controller.specs.Laws.{Holds, Room, WriteEmpty, WriteShort, WriteSucceeds, WriteDone, WriteRefused, WriteNumbers}
 use Rattle.controller.proofs.Holding.{holds-is-plain}
 
@@ -41,6 +41,11 @@ module _ (c : Controller) (buffer : List ℕ) (start : ℕ) where
   none-held bad =
       let e : writeFault c buffer start ≡ refusal 18 0 = need-fail _ _ _ (tells-false _ (holds-is-plain c) bad) in
       (rw e, rw e)
+
+  -- a write does not read the mode
+  pub any-mode : (writeReport (storing (c .bytes) (c .len)) buffer start ≡ writeReport c buffer start) × (writeBuffer (storing (c .bytes) (c .len)) buffer start ≡ writeBuffer c buffer start)
+  unfolding writeReport writeBuffer writeFault holdsCertificate hasRoom
+  any-mode = (refl, refl)
 
   -- what holds of each of the three holds of a write
   by-way : (P : Report → List ℕ → Type 0)

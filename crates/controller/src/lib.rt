@@ -2,8 +2,10 @@
 ghost use mathlib.Core.Path.{_≡_};
 ghost use Rattle.controller.specs.State.{freshState};
 use certificate::Report;
+use certificate::limits;
 
 mod asking;
+pub mod filling;
 mod loading;
 mod proper;
 mod querying;
@@ -19,29 +21,29 @@ pub struct Controller {
 
 impl Controller {
     // The limits of the format.
-    pub const MAX_LINKS: usize = 8;
+    pub const MAX_LINKS: usize = limits::MAX_LINKS;
 
-    pub const MAX_TURNS: usize = 32;
+    pub const MAX_TURNS: usize = limits::MAX_TURNS;
 
-    pub const MAX_SIGNALS: usize = 16;
+    pub const MAX_SIGNALS: usize = limits::MAX_SIGNALS;
 
-    pub const MAX_MODES: usize = 8;
+    pub const MAX_MODES: usize = limits::MAX_MODES;
 
-    pub const MAX_BOXES: usize = 8;
+    pub const MAX_BOXES: usize = limits::MAX_BOXES;
 
-    pub const MAX_ENTRIES: usize = 4096;
+    pub const MAX_ENTRIES: usize = limits::MAX_ENTRIES;
 
-    pub const MAX_INTERVALS: usize = 15;
+    pub const MAX_INTERVALS: usize = limits::MAX_INTERVALS;
 
     // The greatest length of a certificate: the sum of its greatest records HD, LK, TN, SG, GR, AR, EN, ZZ.
-    pub const SIZE: usize = 9
-        + Controller::MAX_LINKS * 12
-        + Controller::MAX_TURNS * 7
-        + Controller::MAX_SIGNALS * 3
+    pub const SIZE: usize = limits::HEADER_SIZE
+        + Controller::MAX_LINKS * limits::LINK_SIZE
+        + Controller::MAX_TURNS * limits::TURN_SIZE
+        + Controller::MAX_SIGNALS * limits::SIGNAL_SIZE
         + Controller::MAX_LINKS * (1 + 2 * Controller::MAX_INTERVALS)
         + Controller::MAX_BOXES * (2 + 4 * Controller::MAX_LINKS)
-        + Controller::MAX_ENTRIES * 9
-        + 2;
+        + Controller::MAX_ENTRIES * limits::ENTRY_SIZE
+        + limits::END_SIZE;
 
     // The scales that a query may use: 1 to this.
     pub const MAX_SCALE: u32 = 100000;

@@ -7,7 +7,7 @@ ghost use Rattle.runs.specs.Claim.{RunClaim};
 ghost use Rattle.controller.specs.State.{holding, loadOf};
 use crate::Controller;
 use crate::Loaded;
-use crate::writing;
+use crate::filling;
 use judging::verdict;
 
 impl Controller {
@@ -17,7 +17,7 @@ impl Controller {
         ensures { λ r. ⌜ r ≡ holding (now (s .entry)) ⌝ }
     {
         let mut bytes = [0u8; Controller::SIZE];
-        writing::put(s, s.len(), &mut bytes);
+        filling::put(s, s.len(), &mut bytes);
         Controller {
             bytes,
             len: s.len(),

@@ -56,8 +56,8 @@ pub extern "C" fn dergvost_judge(s: &[u8], out: &mut [u32]) -> u32
     if out.len() < 4 {
         return 255;
     }
-    let report = judging::verdict::judge(s);
-    put_report(report, out)
+    let verdict = judging::verdict::judge(s);
+    put_report(verdict, out)
 }
 
 // The listing of any bytes into the front of a buffer, reported as above; a report slice too short leaves both as they were.
@@ -68,8 +68,8 @@ pub extern "C" fn dergvost_list(s: &[u8], buffer: &mut [u8], out: &mut [u32]) ->
     if out.len() < 4 {
         return 255;
     }
-    let report = listing::list(s, buffer);
-    put_report(report, out)
+    let listed = listing::list(s, buffer);
+    put_report(listed, out)
 }
 
 // Loads any bytes into the state that the first slice holds. A state or a report slice too short gets 255 and nothing changes.

@@ -2,10 +2,11 @@
 ghost use mathlib.Core.Path.{_≡_};
 ghost use mathlib.Core.List.{_++_};
 ghost use Prim.Native.Nat.{_≤_, _<_};
-ghost use lib.ListN.{length, take, drop};
+ghost use lib.ListN.{length, drop};
 ghost use Rattle.exports.specs.State.{quadAt, eightAt, octetOf, tailOf, stateSize, stateOf, overState};
 use certificate::octets;
 use controller::Controller;
+use controller::filling;
 
 // The array, the length's eight bytes, the mode.
 pub const STATE_SIZE: usize = Controller::SIZE + 9;
@@ -53,25 +54,13 @@ fn put_tail(n: usize, mode: u8, dst: &mut [u8])
     dst[8] = mode;
 }
 
-// The first n bytes of src into the front of dst; the rest of dst stays.
-fn put(src: &[u8], n: usize, dst: &mut [u8])
-    requires { ⌜ (n ≤ length (now src)) × (n ≤ length (now dst)) ⌝ }
-    ensures { λ _. ⌜ now (dst .exit) ≡ take n (now (src .entry)) ++ drop n (now (dst .entry)) ⌝ }
-{
-    let mut i = 0;
-    while i < n {
-        dst[i] = src[i];
-        i += 1;
-    }
-}
-
 // The state that the bytes are.
 pub fn unpack(state: &[u8]) -> Controller
     requires { ⌜ stateSize ≤ length (now state) ⌝ }
     ensures { λ r. ⌜ r ≡ stateOf (now (state .entry)) ⌝ }
 {
     let mut bytes = [0u8; Controller::SIZE];
-    put(state, Controller::SIZE, &mut bytes);
+    filling::put(state, Controller::SIZE, &mut bytes);
     let len = eight_at(state, Controller::SIZE);
     let mode = state[MODE_AT];
     Controller { bytes, len, mode }
@@ -82,6 +71,6 @@ pub fn pack(c: Controller, state: &mut [u8])
     requires { ⌜ stateSize ≤ length (now state) ⌝ }
     ensures { λ _. ⌜ now (state .exit) ≡ overState c (now (state .entry)) ⌝ }
 {
-    put(&c.bytes, Controller::SIZE, state);
+    filling::put(&c.bytes, Controller::SIZE, state);
     put_tail(c.len, c.mode, &mut state[Controller::SIZE..]);
 }

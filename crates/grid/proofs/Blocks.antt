@@ -69,7 +69,7 @@ module _ (s : List ℕ) where
 unfoldable pub blockOf : List ℕ → ℕ → ℕ → ℕ
 blockOf s l c = c / spanOf s l * spanOf s l
 
-regroup : (q n i w : ℕ) → q * (w * n) + i * w ≡ (q * n + i) * w
+pub regroup : (q n i w : ℕ) → q * (w * n) + i * w ≡ (q * n + i) * w
 regroup q n i w = rw (add-mul, mul-assoc q n w, mul-comm w n)
 
 module _ (s : List ℕ) (R : Readable s) where
@@ -99,7 +99,7 @@ module _ (s : List ℕ) (R : Readable s) where
   unfolding blockOf
   same-quotient l c d a b = div-eq-of-lt-le (spanOf s l) a (rw (add-one, suc-mul) b)
 
-  block-same : (l c d : ℕ) → blockOf s l d ≤ c → c < blockOf s l d + spanOf s l → blockOf s l c ≡ blockOf s l d
+  pub block-same : (l c d : ℕ) → blockOf s l d ≤ c → c < blockOf s l d + spanOf s l → blockOf s l c ≡ blockOf s l d
   unfolding blockOf
   block-same l c d a b = rw (same-quotient l c d a b)
 
@@ -126,6 +126,12 @@ module _ (s : List ℕ) (R : Readable s) where
         let k = held (omega (arith, span-next s l lt, mul-comm (weightOf s l) (intervalsOf s l))) in
         let p : intervalIn s c l * weightOf s l < n * weightOf s l = omega arith in
         lt-of-mul-lt-mul-right (weightOf s l) p
+
+    pub interval-above : (n : ℕ) → blockOf s l d + n * weightOf s l ≤ c → c < blockOf s l d + spanOf s l → n ≤ intervalIn s c l
+    interval-above n a h =
+        let p : n * weightOf s l < suc (intervalIn s c l) * weightOf s l = omega (arith, held h) in
+        let q : n < suc (intervalIn s c l) = lt-of-mul-lt-mul-right (weightOf s l) p in
+        omega arith
 
     pub interval-grows : c < blockOf s l d + spanOf s l → intervalIn s d l ≤ intervalIn s c l
     interval-grows h =

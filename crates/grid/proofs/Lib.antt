@@ -8,4 +8,8 @@ pub mod Blocks
 pub mod Filling
 pub mod Ranging
 pub mod Jumps
+pub mod Moves
+pub mod Runs
+pub mod Odometer
+pub mod Rows
 pub mod Locating

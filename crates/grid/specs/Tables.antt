@@ -96,13 +96,6 @@ pub record RangesOf (s low high first last : List ℕ) : Type 0 where
 abbrev pub NoneIn : List ℕ → List ℕ → List ℕ → ℕ → ℕ → Type 0
 NoneIn s first last d r = (c : ℕ) → d ≤ c → c < r → inRanges s first last c ≡ false
 
--- r is where to look next after cell d: d itself if it lies in the ranges, else a later cell, past none that does
-pub record Stepped (s first last : List ℕ) (d r : ℕ) : Type 0 where
-  pub least : d ≤ r
-  pub most : r ≤ cellsOf s
-  pub none : NoneIn s first last d r
-  pub here : r ≡ d → inRanges s first last d ≡ true
-
 -- r is the first cell from d on that lies in the ranges, and the number of cells where there is none
 pub record Sought (s first last : List ℕ) (d r : ℕ) : Type 0 where
   pub least : d ≤ r
@@ -115,6 +108,27 @@ pub record RunTo (s first last : List ℕ) (d r : ℕ) : Type 0 where
   pub least : d < r
   pub most : r ≤ cellsOf s
   pub all : (c : ℕ) → d ≤ c → c < r → inRanges s first last c ≡ true
+
+-- every interval of the links after k lies in its range: a run of cells takes all of them in
+pub record FullAfter (s first last : List ℕ) (k : ℕ) : Type 0 where
+  pub exists : k < linksOf s
+  pub from-zero : (l : ℕ) → k < l → l < linksOf s → getD first l 0 ≡ 0
+  pub to-end : (l : ℕ) → k < l → l < linksOf s → getD last l 0 + 1 ≡ intervalsOf s l
+
+-- a run starts at cell d: it lies in the ranges, at the first interval of the range on link k and on every link after it
+pub record Starts (s first last : List ℕ) (k d : ℕ) : Type 0 where
+  pub exists : d < cellsOf s
+  pub inside : inRanges s first last d ≡ true
+  pub at-first : (l : ℕ) → k ≤ l → l < linksOf s → intervalIn s d l ≡ getD first l 0
+
+-- `left` runs follow the one that starts at d along the link before the run link k
+pub record RowLeft (s last : List ℕ) (k d left : ℕ) : Type 0 where
+  pub none : k ≡ 0 → left ≡ 0
+  pub some : 0 < k → intervalIn s d (k - 1) + left ≡ getD last (k - 1) 0
+
+-- the end of the run that starts at d
+abbrev pub runEnd : List ℕ → List ℕ → List ℕ → ℕ → ℕ → ℕ
+runEnd s first last k d = d + (getD last k 0 + 1 - getD first k 0) * weightOf s k
 
 -- each queue of the table x, over scale D, is at most cap
 abbrev pub QueuesFit : List ℕ → ℕ → List ℕ → Type 0

@@ -1,11 +1,17 @@
-// Only the cells whose intervals lie in the ranges first .. last of every link are visited. They come in runs along the last link.
+// Only the cells whose intervals lie in the ranges first .. last of every link are visited. They come in runs of consecutive cells:
+// the intervals of the range of the run link, and all those of the links after it.
 ghost use mathlib.Core.Path.{_≡_};
-ghost use mathlib.Core.Bool.{true};
 ghost use Prim.Native.Nat.{_+_, _*_, _<_, _≤_};
 ghost use Rattle.certificate.specs.Layout.{linksOf, cellsOf};
 ghost use Rattle.certificate.specs.Facts.{Readable};
 ghost use Rattle.grid.specs.Cells.{intervalIn};
-ghost use Rattle.grid.specs.Tables.{GridOf, DigitsOf, Bounded, Stepped, Sought, inRanges, RunTo};
+ghost use Rattle.grid.specs.Tables.{GridOf, CountsOf, DigitsOf, Bounded, FullAfter, Starts, RowLeft, Sought, RunTo, runEnd};
+
+// Where a run starts, and how many runs follow it along the link before the run link.
+pub struct Run {
+    pub at: usize,
+    pub left: usize,
+}
 
 fn wide(x: u8) -> usize
     ensures { λ r. ⌜ r ≡ x ⌝ }
@@ -29,38 +35,82 @@ fn ahead(base: usize, n: usize, weight: usize) -> usize
     n * weight + base
 }
 
-// Where to look next after cell d. At the first link out of its range, all cells up to there share the intervals before it and are out of range on it too.
-fn step<'a>(
+// The run link: every link after it has its full range.
+pub fn run_link<'a>(
     s: &[u8],
-    digits: &[u8; 32768],
+    counts: &[usize; 8],
+    first: &'a [usize; 8],
+    last: &'a [usize; 8],
+    links: usize,
+) -> usize
+    requires { ⌜ Readable (now s) × CountsOf (now s) (now counts) × (links ≡ linksOf (now s)) × Bounded (now s) (now first) (now last) ⌝ }
+    ensures { λ r. ⌜ FullAfter (now (s .entry)) (now (first .entry)) (now (last .entry)) r ⌝ }
+{
+    let mut k = links - 1;
+    while k > 0 {
+        if first[k] != 0 {
+            return k;
+        }
+        if last[k] + 1 != counts[k] {
+            return k;
+        }
+        k -= 1;
+    }
+    k
+}
+
+// The first run, and the number of cells where there is none: some range is empty.
+pub fn first_run<'a>(
+    s: &[u8],
     counts: &[usize; 8],
     weights: &[usize; 8],
     first: &'a [usize; 8],
     last: &'a [usize; 8],
     links: usize,
-    d: usize,
-) -> usize
-    requires { ⌜ GridOf (now s) (now counts) (now weights) links × DigitsOf (now s) (now digits) × Bounded (now s) (now first) (now last) × (d < cellsOf (now s)) ⌝ }
-    ensures { λ r. ⌜ Stepped (now (s .entry)) (now (first .entry)) (now (last .entry)) d r ⌝ }
+    cells: usize,
+    k: usize,
+) -> Run
+    requires { ⌜ GridOf (now s) (now counts) (now weights) links × Bounded (now s) (now first) (now last) × (cells ≡ cellsOf (now s)) × (k < linksOf (now s)) ⌝ }
+    ensures { λ r. ⌜ Sought (now (s .entry)) (now (first .entry)) (now (last .entry)) 0 (r .at) × (r .at < cellsOf (now (s .entry)) → Starts (now (s .entry)) (now (first .entry)) (now (last .entry)) k (r .at) × RowLeft (now (s .entry)) (now (last .entry)) k (r .at) (r .left)) ⌝ }
 {
     let mut base = 0;
     for l in 0..links {
         let f = first[l];
-        let w = weights[l];
-        let i = digit(s, digits, d, l);
-        if i < f {
-            return ahead(base, f, w);
+        if last[l] < f {
+            return Run { at: cells, left: 0 };
         }
-        if last[l] < i {
-            return ahead(base, counts[l], w);
-        }
-        base = ahead(base, i, w);
+        base = ahead(base, f, weights[l]);
     }
-    d
+    if k == 0 {
+        return Run { at: base, left: 0 };
+    }
+    Run {
+        at: base,
+        left: last[k - 1] - first[k - 1],
+    }
 }
 
-// The first cell from d on in the ranges, and the number of cells where there is none.
-pub fn seek<'a>(
+// Past the run that starts at d.
+pub fn run_end<'a>(
+    s: &[u8],
+    counts: &[usize; 8],
+    weights: &[usize; 8],
+    first: &'a [usize; 8],
+    last: &'a [usize; 8],
+    links: usize,
+    k: usize,
+    d: usize,
+) -> usize
+    requires { ⌜ GridOf (now s) (now counts) (now weights) links × Bounded (now s) (now first) (now last) × FullAfter (now s) (now first) (now last) k × Starts (now s) (now first) (now last) k d ⌝ }
+    ensures { λ r. ⌜ (r ≡ runEnd (now (s .entry)) (now (first .entry)) (now (last .entry)) k d) × RunTo (now (s .entry)) (now (first .entry)) (now (last .entry)) d r ⌝ }
+{
+    ahead(d, last[k] + 1 - first[k], weights[k])
+}
+
+// The run after the one that starts at d, and the number of cells where there is none. It follows along the link before the run
+// link where runs are left there. Else that link goes back to its first interval, and the links before it are gone through from the
+// last: a link that has a next interval in its range takes it, and any other goes back to its first.
+pub fn next_run<'a>(
     s: &[u8],
     digits: &[u8; 32768],
     counts: &[usize; 8],
@@ -69,34 +119,35 @@ pub fn seek<'a>(
     last: &'a [usize; 8],
     links: usize,
     cells: usize,
+    k: usize,
     d: usize,
-) -> usize
-    requires { ⌜ GridOf (now s) (now counts) (now weights) links × DigitsOf (now s) (now digits) × Bounded (now s) (now first) (now last) × (cells ≡ cellsOf (now s)) × (d ≤ cells) ⌝ }
-    ensures { λ r. ⌜ Sought (now (s .entry)) (now (first .entry)) (now (last .entry)) d r ⌝ }
+    left: usize,
+) -> Run
+    requires { ⌜ GridOf (now s) (now counts) (now weights) links × DigitsOf (now s) (now digits) × Bounded (now s) (now first) (now last) × FullAfter (now s) (now first) (now last) k × Starts (now s) (now first) (now last) k d × (cells ≡ cellsOf (now s)) × RowLeft (now s) (now last) k d left ⌝ }
+    ensures { λ r. ⌜ Sought (now (s .entry)) (now (first .entry)) (now (last .entry)) (runEnd (now (s .entry)) (now (first .entry)) (now (last .entry)) k d) (r .at) × (r .at < cellsOf (now (s .entry)) → Starts (now (s .entry)) (now (first .entry)) (now (last .entry)) k (r .at) × RowLeft (now (s .entry)) (now (last .entry)) k (r .at) (r .left)) ⌝ }
 {
-    let mut c = d;
-    while c < cells {
-        let r = step(s, digits, counts, weights, first, last, links, c);
-        if r == c {
-            return c;
-        }
-        c = r;
+    if left > 0 {
+        return Run {
+            at: d + weights[k - 1],
+            left: left - 1,
+        };
     }
-    c
-}
-
-// Past the run of cells in the ranges that starts at d: up to the last of the last link's range.
-pub fn run_end<'a>(
-    s: &[u8],
-    digits: &[u8; 32768],
-    first: &'a [usize; 8],
-    last: &'a [usize; 8],
-    links: usize,
-    d: usize,
-) -> usize
-    requires { ⌜ Readable (now s) × (links ≡ linksOf (now s)) × DigitsOf (now s) (now digits) × Bounded (now s) (now first) (now last) × (d < cellsOf (now s)) × (inRanges (now s) (now first) (now last) d ≡ true) ⌝ }
-    ensures { λ r. ⌜ RunTo (now (s .entry)) (now (first .entry)) (now (last .entry)) d r ⌝ }
-{
-    let l = links - 1;
-    d + (last[l] - digit(s, digits, d, l)) + 1
+    if k == 0 {
+        return Run { at: cells, left: 0 };
+    }
+    let mut l = k - 1;
+    let row = last[l] - first[l];
+    let mut base = d - row * weights[l];
+    while l > 0 {
+        l -= 1;
+        let w = weights[l];
+        if digit(s, digits, d, l) < last[l] {
+            return Run {
+                at: base + w,
+                left: row,
+            };
+        }
+        base = base - (last[l] - first[l]) * w;
+    }
+    Run { at: cells, left: 0 }
 }

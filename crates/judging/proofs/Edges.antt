@@ -2,7 +2,6 @@
 use Prim.Native.Nat.{ℕ, _+_, _≤_, _<_}
 use mathlib.Core.List.{List}
 use mathlib.Core.Bool.{Bool, true, false, not, cond, _&&_, Bool·beq}
-use borrow.Author.Tests.{not-true, not-false}
 use mathlib.Core.Path.{_≡_, refl, sym, ap, _∙_}
 use lib.Dec.{eqb, leb}
 use lib.ListN.{getD}
@@ -43,13 +42,6 @@ same-test true false = refl
 same-test false true = refl
 same-test false false = refl
 
-module _ (s : List ℕ) (e rank : ℕ) (g : Bool) (p : rank ≡ rankOf s e) (q : g ≡ isGoal s e) where
-  same-ranked : Bool·beq (eqb rank 0) g ≡ isRanked s e
-  unfolding isRanked
-  same-ranked = rw (p, q) (same-test (eqb (rankOf s e) 0) (isGoal s e))
-
-  pub rank-fits : not (Bool·beq (eqb rank 0) g) ≡ false → isRanked s e ≡ true
-  rank-fits h = sym same-ranked ∙ not-false _ h
-
-  pub rank-unfit : not (Bool·beq (eqb rank 0) g) ≡ true → isRanked s e ≡ false
-  rank-unfit h = sym same-ranked ∙ not-true _ h
+pub same-ranked : (s : List ℕ) (e rank : ℕ) (g : Bool) → rank ≡ rankOf s e → g ≡ isGoal s e → Bool·beq (eqb rank 0) g ≡ isRanked s e
+unfolding isRanked
+same-ranked s e rank g p q = rw (p, q) (same-test (eqb (rankOf s e) 0) (isGoal s e))

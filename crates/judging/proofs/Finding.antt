@@ -101,18 +101,6 @@ module _ (s : List ℕ) (d m : ℕ) where
           let same : cellOf s (entryFor s d m) ≡ d = for-pair (omega (arith, from-most s d)) .0 in
           absurd (omega (arith, from-before s d (entryFor s d m) lt))
 
-  -- a scan through all entries, that has come to e
-  pub scan-here : (e : ℕ) (r : Bool) → e ≤ entryFor s d m → r ≡ isFor s d m e → r ≡ true → e ≡ entryFor s d m
-  unfolding entryFor
-  scan-here e r le p q = here _ _ e le (sym p ∙ q)
-
-  pub scan-beyond : (e count : ℕ) (r : Bool) → count ≡ entriesOf s → e < count → e ≤ entryFor s d m → r ≡ isFor s d m e → r ≡ false → e + 1 ≤ entryFor s d m
-  unfolding entryFor
-  scan-beyond e count r w lt le p q = beyond _ _ e le (rw w at lt) (sym p ∙ q)
-
-  pub scan-nowhere : (e count : ℕ) → count ≡ entriesOf s → count ≤ e → e ≤ entryFor s d m → count ≡ entryFor s d m
-  scan-nowhere e count w ge le = omega (arith, for-most)
-
   -- a scan between the first entries of cell d and of the next one, that has come to e
   pub between-here : CellsAscend s → (end e r : ℕ) → end ≡ entryFrom s (d + 1) → entryFrom s d ≤ e → e < end → e ≤ entryFor s d m
       → r ≡ modeOf s e → r ≡ m → e ≡ entryFor s d m

@@ -3,36 +3,16 @@ use Prim.Native.Nat.{ℕ, _*_, _≤_}
 use mathlib.Core.List.{List}
 use mathlib.Core.Path.{_≡_}
 use Rattle.certificate.specs.declared.Report.{Report}
-use Rattle.certificate.specs.declared.reading.Layout.{Layout}
 use Rattle.certificate.specs.declared.reading.Reading.{Reading}
 use Rattle.certificate.specs.Layout.{entriesOf, boxesOf, cellsOf}
 use Rattle.certificate.specs.Laid.{LaidOut, ReadAs}
 use Rattle.certificate.proofs.Cases.{first, second}
 use Rattle.network.specs.Conditions.{screeningOf}
 use Rattle.network.specs.Laws.{Screened}
-use Rattle.network.specs.Roads.{FirstTurns}
 use Rattle.network.proofs.Screening.{screening-is-plain}
-use Rattle.grid.specs.Tables.{EdgesOf, CountsOf, WeightsOf, DigitsOf}
-use Rattle.judging.specs.Lookup.{IsIndex}
 use Rattle.judging.specs.Judging.{judgingFrom}
-use Rattle.judging.specs.Tables.{TablesOf}
 use Rattle.judging.specs.Verdict.{verdictOf}
 use Rattle.judging.proofs.Verdicts.{count-fits}
-
--- the tables, one by one
-pub tables-of : (s : List ℕ) (layout : Layout) (index digits edges counts weights turns : List ℕ) → Screened s → LaidOut s layout
-    → IsIndex s index → DigitsOf s digits → EdgesOf s edges → CountsOf s counts → WeightsOf s weights → FirstTurns s turns
-    → TablesOf s layout index digits edges counts weights turns
-tables-of s layout index digits edges counts weights turns S Y I D E C W F =
-    record {
-      screened = S;
-      laid = Y;
-      indexed = I;
-      digit = D;
-      edge = E;
-      grid = record { readable = S .readable; count = C; weight = W; link = Y .links-are };
-      turn = F;
-    }
 
 -- a verdict has its count within entries × boxes × cells
 answers : (s : List ℕ) (r : Report) → r ≡ verdictOf s → (r ≡ verdictOf s) × (r .count ≤ entriesOf s * boxesOf s * cellsOf s)

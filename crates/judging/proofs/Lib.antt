@@ -9,6 +9,8 @@ pub mod Stages
 pub mod Outcome
 pub mod Verdicts
 pub mod Finding
+pub mod Bisecting
+pub mod Ranking
 pub mod Chaining
 pub mod Successors
 pub mod Searching
@@ -16,4 +18,5 @@ pub mod Places
 pub mod Edges
 pub mod PlaceBounds
 pub mod Ranged
+pub mod Arriving
 pub mod Judge

@@ -1,111 +1,144 @@
 -- Where the nested search stands, box by box and cell by cell: what is left to find, and how far the count can be. Assumes nothing.
-use Prim.Native.Nat.{ℕ, _+_, _*_, _≤_, _<_}
+use Prim.Native.Nat.{ℕ, _+_, _*_, _-_, _≤_, _<_}
 use mathlib.Core.List.{List}
 use mathlib.Core.Bool.{true, false}
-use mathlib.Core.Path.{_≡_, refl}
+use mathlib.Core.Path.{_≡_, refl, sym, ap, _∙_}
 use native.Mathlib.Omega.{arith}
 use Rattle.certificate.specs.declared.Report.{Report}
-use Rattle.certificate.specs.Checks.{result}
+use Rattle.certificate.specs.Checks.{result, orElse}
 use Rattle.certificate.specs.Layout.{cellsOf}
+use Rattle.certificate.proofs.Tests.{or-next, or-stop, or-both}
+use Rattle.grid.specs.Tables.{FullAfter, Starts, RowLeft}
 use Rattle.judging.specs.declared.Task.{Task}
-use Rattle.judging.specs.Judging.{follows, successorFault, boxesFrom, cellsFrom, IsTask}
+use Rattle.judging.specs.Judging.{follows, successorFault, accepted, boxesFrom, cellsFrom, IsTask}
+use Rattle.judging.specs.Tables.{BoxRanges}
+use Rattle.judging.proofs.Successors.{looked-refused, looked-fine, fault-count}
 use Rattle.judging.proofs.Searching.{open-box, shut-box, end-search, skip, holds, stops}
 
--- no refusal found yet: number, entry and cell are 0
-pub record Clear (number a cell : ℕ) : Type 0 where
-  pub no-number : number ≡ 0
-  pub no-entry : a ≡ 0
-  pub no-cell : cell ≡ 0
-
--- before box b, with n looked up; the search began with count
-pub record AtBox (s : List ℕ) (task : Task) (count number a cell n b : ℕ) : Type 0 where
-  pub rest : boxesFrom s (task .entry) b n ≡ boxesFrom s (task .entry) 0 count
-  pub most : n ≤ 32768 * task .entry + 4096 * b
+-- before box b, with no refusal found; the search began with count
+pub record AtBox (s : List ℕ) (task : Task) (count : ℕ) (found : Report) (b : ℕ) : Type 0 where
+  pub rest : boxesFrom s (task .entry) b (found .count) ≡ boxesFrom s (task .entry) 0 count
+  pub most : found .count ≤ 32768 * task .entry + 4096 * b
   pub inside : b ≤ task .boxes
-  pub clear : Clear number a cell
+  pub clear : found ≡ accepted (found .count)
 
 -- before cell d of box b
-pub record AtCell (s : List ℕ) (task : Task) (count b number a cell n d : ℕ) : Type 0 where
-  pub rest : cellsFrom s (task .entry) b d n ≡ boxesFrom s (task .entry) 0 count
-  pub most : n ≤ 32768 * task .entry + 4096 * b + d
+pub record AtCell (s : List ℕ) (task : Task) (count b : ℕ) (found : Report) (d : ℕ) : Type 0 where
+  pub rest : cellsFrom s (task .entry) b d (found .count) ≡ boxesFrom s (task .entry) 0 count
+  pub most : found .count ≤ 32768 * task .entry + 4096 * b + d
   pub inside : d ≤ task .cells
-  pub clear : Clear number a cell
+  pub clear : found ≡ accepted (found .count)
 
--- the same, and the cells from d up to `last` all follow
-pub record InRun (s : List ℕ) (task : Task) (count b last number a cell n d : ℕ) : Type 0 where
-  pub place : AtCell s task count b number a cell n d
-  pub before : d ≤ last
+-- at cell c of the run of box b from d up to `last`, with n looked up before the run: the cells left of it all follow
+pub record InRun (s : List ℕ) (task : Task) (count b d last n c : ℕ) : Type 0 where
+  pub rest : cellsFrom s (task .entry) b c (n + (c - d)) ≡ boxesFrom s (task .entry) 0 count
+  pub most : n ≤ 32768 * task .entry + 4096 * b + d
+  pub from : d ≤ c
+  pub to : c ≤ last
   pub fits : last ≤ task .cells
-  pub all : (c : ℕ) → d ≤ c → c < last → follows s (task .entry) b c ≡ true
+  pub all : (i : ℕ) → c ≤ i → i < last → follows s (task .entry) b i ≡ true
+
+-- between the runs of box b: where there are cells left, one of the runs along link k starts at d, with `left` more in its row
+pub record AtRun (s : List ℕ) (task : Task) (count b : ℕ) (first last : List ℕ) (k : ℕ) (found : Report) (d left : ℕ) : Type 0 where
+  pub place : AtCell s task count b found d
+  pub ranges : BoxRanges s (task .entry) b first last
+  pub full : FullAfter s first last k
+  pub starts : d < task .cells → Starts s first last k d × RowLeft s last k d left
 
 -- the answer of the search, and its greatest count
 abbrev pub Answers : List ℕ → Task → ℕ → Report → Type 0
 Answers s task count r = (r ≡ boxesFrom s (task .entry) 0 count) × (r .count ≤ 32768 * (task .entry + 1))
 
 -- at the start
-pub begins : (s : List ℕ) (task : Task) (count : ℕ) → count ≤ 32768 * task .entry → AtBox s task count 0 0 0 count 0
-begins s task count h = record { rest = refl; most = omega arith; inside = omega arith; clear = record { no-number = refl; no-entry = refl; no-cell = refl } }
+pub begins : (s : List ℕ) (task : Task) (count : ℕ) (found : Report) → found ≡ accepted count → count ≤ 32768 * task .entry → AtBox s task count found 0
+begins s task count found e h =
+    let same : found .count ≡ count = ap (λ (r : Report). r .count) e in
+    record { rest = rw same; most = omega arith; inside = omega arith; clear = e ∙ ap (λ (n : ℕ). accepted n) (sym same) }
 
-module _ {s : List ℕ} {task : Task} (is : IsTask s task) {count number a cell n b : ℕ} where
+module _ {s : List ℕ} {task : Task} (is : IsTask s task) {count b : ℕ} {found : Report} where
   -- after the last box
-  pub ends : task .boxes ≤ b → AtBox s task count number a cell n b → Answers s task count (result number a cell n)
-  ends h i =
-      let c = i .clear in (
-        rw (c .no-number, c .no-entry, c .no-cell) (end-search s (task .entry) b 0 n (rw (is .boxes-is) at h) (i .rest)),
-        omega (arith, i .most, i .inside, is .boxes-most),
-      )
+  pub ends : task .boxes ≤ b → AtBox s task count found b → Answers s task count found
+  ends h i = (
+    i .clear ∙ end-search s (task .entry) b 0 (found .count) (rw (is .boxes-is) at h) (i .rest),
+    omega (arith, i .most, i .inside, is .boxes-most),
+  )
 
   -- from the start of a box, and from a cell, to the next cell that follows
   pub opens : {r : ℕ} → b < task .boxes → r ≤ task .cells → ((c : ℕ) → 0 ≤ c → c < r → follows s (task .entry) b c ≡ false)
-      → AtBox s task count number a cell n b → AtCell s task count b number a cell n r
+      → AtBox s task count found b → AtCell s task count b found r
   opens {r} h most none i =
       record {
-        rest = skip s (task .entry) b 0 n r (omega arith) (rw (is .cells-is) at most) none (open-box s (task .entry) b 0 n (rw (is .boxes-is) at h) (i .rest));
+        rest = skip s (task .entry) b 0 (found .count) r (omega arith) (rw (is .cells-is) at most) none (open-box s (task .entry) b 0 (found .count) (rw (is .boxes-is) at h) (i .rest));
         most = omega (arith, i .most);
         inside = most;
         clear = i .clear;
       }
 
   pub skips : {d r : ℕ} → d ≤ r → r ≤ task .cells → ((c : ℕ) → d ≤ c → c < r → follows s (task .entry) b c ≡ false)
-      → AtCell s task count b number a cell n d → AtCell s task count b number a cell n r
+      → AtCell s task count b found d → AtCell s task count b found r
   skips {d} {r} le most none i =
       record {
-        rest = skip s (task .entry) b d n r le (rw (is .cells-is) at most) none (i .rest);
+        rest = skip s (task .entry) b d (found .count) r le (rw (is .cells-is) at most) none (i .rest);
         most = omega (arith, i .most);
         inside = most;
         clear = i .clear;
       }
 
-  pub shuts : {d : ℕ} → b < task .boxes → task .cells ≤ d → AtCell s task count b number a cell n d → AtBox s task count number a cell n (b + 1)
+  pub shuts : {d : ℕ} → b < task .boxes → task .cells ≤ d → AtCell s task count b found d → AtBox s task count found (b + 1)
   shuts {d} lt h i =
       record {
-        rest = shut-box s (task .entry) b d n (rw (is .cells-is) at h) (i .rest);
+        rest = shut-box s (task .entry) b d (found .count) (rw (is .cells-is) at h) (i .rest);
         most = omega (arith, i .most, i .inside, is .cells-most);
         inside = omega arith;
         clear = i .clear;
       }
 
-  -- a successor is looked up; k is the number of its refusal
-  module _ {last d k : ℕ} (lb : b < task .boxes) (ld : d < last) (place : InRun s task count b last number a cell n d) (k-is : k ≡ successorFault s (task .entry) d 0 .number) where
-    inside : d < cellsOf s
-    inside = rw (← is .cells-is) (omega (arith, place .fits))
+-- a run begins
+pub runs : {s : List ℕ} {task : Task} {count b d last : ℕ} {found : Report} → AtCell s task count b found d → d < last → last ≤ task .cells
+    → ((i : ℕ) → d ≤ i → i < last → follows s (task .entry) b i ≡ true) → InRun s task count b d last (found .count) d
+runs {s} {task} {count} {b} {d} {last} {found} i lt most all =
+    let none : found .count + (d - d) ≡ found .count = omega arith in
+    record { rest = rw none (i .rest); most = i .most; from = omega arith; to = omega arith; fits = most; all = all }
 
-    pub refuses : (k ≡ 0 → ⊥) → Answers s task count (result k (task .entry) d (n + 1))
-    refuses z = (
-      stops s (task .entry) b d n inside (place .all d (omega arith) ld) k k-is z (place .place .rest),
-      omega (arith, place .place .most, place .fits, is .cells-most, is .boxes-most),
-    )
+module _ {s : List ℕ} {task : Task} (is : IsTask s task) {count b d last n : ℕ} where
+  -- a run ends, with all its cells looked up
+  pub ran : {c : ℕ} {r : Report} → last ≤ c → InRun s task count b d last n c → r ≡ accepted (n + (last - d)) → AtCell s task count b r last
+  ran {c} {r} ge i e =
+      let same : r .count ≡ n + (last - d) = ap (λ (q : Report). q .count) e in
+      let is-last : c ≡ last = omega (arith, i .to) in
+      record {
+        rest = rw (same, ← is-last) (i .rest);
+        most = omega (arith, i .most, i .from);
+        inside = i .fits;
+        clear = e ∙ ap (λ (m : ℕ). accepted m) (sym same);
+      }
 
-    pub passes : k ≡ 0 → InRun s task count b last k a cell (n + 1) (d + 1)
+  -- cell c is looked up, with the number k of its refusal
+  module _ {c k : ℕ} (lb : b < task .boxes) (lc : c < last) (at : InRun s task count b d last n c) (k-is : k ≡ successorFault s (task .entry) c 0 .number) where
+    inside : c < cellsOf s
+    inside = rw (← is .cells-is) (omega (arith, at .fits))
+
+    pub refuses : {r : Report} → (k ≡ 0 → ⊥) → r ≡ result k (task .entry) c (n + (c - d) + 1) → Answers s task count r
+    refuses {r} z q =
+        let f = successorFault s (task .entry) c (n + (c - d) + 1) in
+        let r-is = looked-refused s (task .entry) c (n + (c - d) + 1) k r k-is z q in
+        let bad : f .number ≡ 0 → ⊥ = λ w. z (sym (ap (λ (p : Report). p .number) q) ∙ ap (λ (p : Report). p .number) (r-is ∙ or-next f _ w)) in
+        let same : r ≡ f = r-is ∙ or-stop f _ bad in (
+          same ∙ stops s (task .entry) b c (n + (c - d)) inside (at .all c (omega arith) lc) bad (at .rest),
+          omega (arith, ap (λ (p : Report). p .count) same, fault-count s (task .entry) c (n + (c - d) + 1), at .most, at .from, at .fits, is .cells-most, is .boxes-most),
+        )
+
+    pub passes : k ≡ 0 → InRun s task count b d last n (c + 1)
     passes z =
+        let f = successorFault s (task .entry) c (n + (c - d) + 1) in
+        let fine = looked-fine s (task .entry) c (n + (c - d) + 1) k (accepted (n + (c - d) + 1)) k-is z refl in
+        let good : f .number ≡ 0 = or-both f (accepted (n + (c - d) + 1)) (sym (ap (λ (p : Report). p .number) fine)) .0 in
+        let more : n + (c + 1 - d) ≡ n + (c - d) + 1 = omega (arith, at .from) in
         record {
-          place = record {
-            rest = holds s (task .entry) b d n inside (place .all d (omega arith) ld) k k-is z (place .place .rest);
-            most = omega (arith, place .place .most);
-            inside = omega (arith, place .fits);
-            clear = record { no-number = z; no-entry = place .place .clear .no-entry; no-cell = place .place .clear .no-cell };
-          };
-          before = omega arith;
-          fits = place .fits;
-          all = λ c ge lt. place .all c (omega arith) lt;
+          rest = rw more (holds s (task .entry) b c (n + (c - d)) inside (at .all c (omega arith) lc) good (at .rest));
+          most = at .most;
+          from = omega (arith, at .from);
+          to = omega arith;
+          fits = at .fits;
+          all = λ i ge lt. at .all i (omega arith) lt;
         }

@@ -1,8 +1,8 @@
--- The ends of an entry's image, before arrivals and with those of a box, and the ranges of intervals that meet it. Assumes nothing.
-use Prim.Native.Nat.{ℕ, _+_, _*_, _≤_, _<_, min}
+-- The ends of an entry's image before arrivals, and the ranges of intervals that meet it. Assumes nothing.
+use Prim.Native.Nat.{ℕ, _+_, _*_, _≤_, _<_}
 use mathlib.Core.List.{List}
 use mathlib.Core.Bool.{Bool, true, false}
-use mathlib.Core.Path.{_≡_, refl, sym, ap, _∙_}
+use mathlib.Core.Path.{_≡_, sym, ap, _∙_}
 use native.Mathlib.Nat.{le-antisymm, le-of-eq}
 use native.Mathlib.Omega.{arith}
 use lib.ListN.{getD}
@@ -12,7 +12,7 @@ use Rattle.certificate.specs.Checks.{result, fine, need}
 use Rattle.certificate.specs.Facts.{Readable}
 use Rattle.certificate.specs.Laid.{LaidOut}
 use Rattle.certificate.proofs.Size.{cells-in-range}
-use Rattle.certificate.specs.Layout.{linksOf, intervalsOf, cellsOf, capOf, signalsOf, greenByteOf, boxesOf, lowOf, highOf, entriesOf, cellOf, signalOf}
+use Rattle.certificate.specs.Layout.{linksOf, intervalsOf, cellsOf, signalsOf, greenByteOf, entriesOf, cellOf, signalOf}
 use Rattle.network.specs.Network.{networkOf, isGreen, limitOf}
 use Rattle.network.specs.Flow.{gross}
 use Rattle.network.specs.Image.{beside, lowCorner, highCorner}
@@ -20,13 +20,10 @@ use Rattle.network.specs.Laws.{Screened}
 use Rattle.network.specs.Roads.{Roads, WithinCaps, EndsBefore, limitBy, at}
 use Rattle.network.proofs.Monotone.{monotone}
 use Rattle.network.proofs.Screening.{sound-of}
-use Rattle.network.proofs.Arriving.{end-arriving}
-use Rattle.grid.specs.Cells.{intervalIn, lowerOf, upperOf}
+use Rattle.grid.specs.Cells.{intervalIn}
 use Rattle.grid.proofs.Numbers.{is-choice}
 use Rattle.grid.proofs.Edges.{upper-most, cell-lower-below-upper}
-use Rattle.grid.specs.Successors.{imageLow, imageHigh}
 use Rattle.grid.specs.Tables.{DigitsOf, RangesOf}
-use Rattle.grid.proofs.Images.{image-is-smallest}
 use Rattle.grid.proofs.Ranging.{successor-in-ranges}
 use Rattle.judging.specs.Judging.{isSafe, isRanked, standingFault, follows}
 use Rattle.judging.specs.Tables.{CellEdges, EntryEnds, EntryImage, BoxRanges}
@@ -69,19 +66,6 @@ ends-are s S e byte g lower upper low high he C eg eb B =
 
     hg : signalOf s e < signalsOf s
     hg = S .readable .entry e he .signal
-
--- the ends with the arrivals of a box are those of the image
-pub image-is : (s : List ℕ) → Screened s → (e b : ℕ) (low high from to : List ℕ) → e < entriesOf s → b < boxesOf s → EntryEnds s e low high
-    → ((l : ℕ) → l < linksOf s → getD from l 0 ≡ min (10000 * capOf s l) (getD low l 0 + 10000 * lowOf s b l))
-    → ((l : ℕ) → l < linksOf s → getD to l 0 ≡ min (10000 * capOf s l) (getD high l 0 + 10000 * highOf s b l))
-    → EntryImage s e b from to
-unfolding imageLow imageHigh
-image-is s S e b low high from to he hb E lows highs =
-    record {
-      low-is = λ l hl. lows l hl ∙ end-arriving (networkOf s) (limitOf s (signalOf s e)) _ (lowOf s b) l _ _ (E .low-is l hl) refl;
-      high-is = λ l hl. highs l hl ∙ end-arriving (networkOf s) (limitOf s (signalOf s e)) _ (highOf s b) l _ _ (E .high-is l hl) refl;
-      smallest = image-is-smallest s S (signalOf s e) b (cellOf s e) (S .readable .entry e he .signal) hb;
-    }
 
 -- so the ranges that meet it tell the successors
 pub ranges-are : (s : List ℕ) → Screened s → (e b : ℕ) (from to first last : List ℕ) → EntryImage s e b from to

@@ -2,15 +2,14 @@
 use Prim.Native.Nat.{ℕ, zero, suc, _+_, _-_, _≤_, _<_}
 use mathlib.Core.List.{List}
 use mathlib.Core.Bool.{true, false}
-use mathlib.Core.Path.{_≡_, refl, sym, ap, _∙_}
+use mathlib.Core.Path.{_≡_, refl, sym, _∙_}
 use native.Mathlib.Omega.{arith}
 use Rattle.certificate.specs.declared.Report.{Report}
-use Rattle.certificate.specs.Checks.{result, fine, orElse}
+use Rattle.certificate.specs.Checks.{fine, orElse}
 use Rattle.certificate.specs.Layout.{cellsOf, boxesOf}
 use Rattle.certificate.proofs.Tests.{or-next, or-stop}
 use Rattle.certificate.proofs.Loops.{from-turn, from-end}
 use Rattle.judging.specs.Judging.{follows, successorFault, countAfter, lookFault, cellTurn, boxTurn, accepted, boxesFrom, cellsFrom}
-use Rattle.judging.proofs.Successors.{no-fault, some-fault}
 
 module _ (s : List ℕ) (e b d n : ℕ) {t : Report} where
   -- a box is opened at its first cell, and shut after its last one
@@ -42,17 +41,14 @@ module _ (s : List ℕ) (e b d n : ℕ) {t : Report} where
   look h f p = rw f at (turn h p)
 
   -- a successor that holds: the search goes on, with one more on the count
-  pub holds : d < cellsOf s → follows s e b d ≡ true → (k : ℕ) → k ≡ successorFault s e d 0 .number → k ≡ 0
+  pub holds : d < cellsOf s → follows s e b d ≡ true → successorFault s e d (n + 1) .number ≡ 0
       → cellsFrom s e b d n ≡ t → cellsFrom s e b (d + 1) (n + 1) ≡ t
-  holds h f k q z p = sym (or-next fine _ refl) ∙ (rw (no-fault s e d (n + 1) (sym q ∙ z)) at (look h f p))
+  holds h f z p = sym (or-next (successorFault s e d (n + 1)) _ z) ∙ look h f p
 
   -- one that does not: its refusal, counted, is the answer
-  pub stops : d < cellsOf s → follows s e b d ≡ true → (k : ℕ) → k ≡ successorFault s e d 0 .number → (k ≡ 0 → ⊥)
-      → cellsFrom s e b d n ≡ t → result k e d (n + 1) ≡ t
-  stops h f k q z p =
-      let bad : successorFault s e d 0 .number ≡ 0 → ⊥ = λ w. z (q ∙ w) in
-      let same : result k e d (n + 1) ≡ successorFault s e d (n + 1) = rw q (some-fault s e d (n + 1) bad) in
-      same ∙ sym (or-stop (successorFault s e d (n + 1)) _ (λ w. z (ap (λ (r : Report). r .number) same ∙ w))) ∙ look h f p
+  pub stops : d < cellsOf s → follows s e b d ≡ true → (successorFault s e d (n + 1) .number ≡ 0 → ⊥)
+      → cellsFrom s e b d n ≡ t → successorFault s e d (n + 1) ≡ t
+  stops h f z p = sym (or-stop (successorFault s e d (n + 1)) _ z) ∙ look h f p
 
 -- a stretch of cells of which none follows is passed over
 pub skip : (s : List ℕ) (e b d n r : ℕ) {t : Report} → d ≤ r → r ≤ cellsOf s

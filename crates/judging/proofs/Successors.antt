@@ -1,22 +1,24 @@
 -- The refusal of one successor, by its number, and the code's tests for it. Assumes nothing.
-use Prim.Native.Nat.{ℕ}
+use Prim.Native.Nat.{ℕ, _+_, _≤_, _<_}
 use mathlib.Core.List.{List}
 use mathlib.Core.Bool.{Bool, true, false, not, _&&_, _||_}
 use mathlib.Core.Path.{_≡_, refl, sym, ap, _∙_}
 use native.Mathlib.Omega.{arith}
-use borrow.Author.Tests.{lt-ltb, le-ltb, leb-true, leb-false}
-use lib.Dec.{eqb, leb, ltb}
-use Rattle.certificate.specs.Checks.{result, fine, need}
-use Rattle.certificate.specs.Layout.{entriesOf, nextModeOf, rankOf}
-use Rattle.certificate.proofs.Tests.{need-pass, need-fail}
+use borrow.Author.Tests.{lt-ltb, le-ltb, ltb-true, ltb-false}
+use lib.Dec.{eqb, ltb}
+use lib.ListN.{getD}
+use Rattle.certificate.specs.Loops.{pick}
+use Rattle.certificate.specs.declared.Report.{Report}
+use Rattle.certificate.specs.Checks.{result, fine, need, orElse}
+use Rattle.certificate.specs.Layout.{nextModeOf, rankOf}
+use Rattle.certificate.proofs.Tests.{need-pass, need-fail, or-next, or-stop}
 use Rattle.judging.specs.declared.Task.{Task}
-use Rattle.judging.specs.Lookup.{entryFor, isListed}
-use Rattle.judging.specs.Judging.{isLower, successorFault, IsTask}
-use Rattle.judging.proofs.Finding.{for-most}
+use Rattle.judging.specs.Lookup.{entryFor, isListed, rankAt, RanksOf}
+use Rattle.judging.specs.Judging.{isLower, successorFault, accepted, IsTask}
 
 -- a successor's refusal is known by its number
 module _ (s : List ℕ) (e d n : ℕ) where
-  pub no-fault : successorFault s e d 0 .number ≡ 0 → successorFault s e d n ≡ fine
+  no-fault : successorFault s e d 0 .number ≡ 0 → successorFault s e d n ≡ fine
   unfolding successorFault need
   no-fault = go (isListed s d (nextModeOf s e)) (isLower s e (entryFor s d (nextModeOf s e)))
     where
@@ -25,7 +27,7 @@ module _ (s : List ℕ) (e d n : ℕ) where
       go true false z = absurd (omega arith)
       go false q z = absurd (omega arith)
 
-  pub some-fault : (successorFault s e d 0 .number ≡ 0 → ⊥) → result (successorFault s e d 0 .number) e d n ≡ successorFault s e d n
+  some-fault : (successorFault s e d 0 .number ≡ 0 → ⊥) → result (successorFault s e d 0 .number) e d n ≡ successorFault s e d n
   unfolding successorFault need
   some-fault = go (isListed s d (nextModeOf s e)) (isLower s e (entryFor s d (nextModeOf s e)))
     where
@@ -35,39 +37,65 @@ module _ (s : List ℕ) (e d n : ℕ) where
       go true false z = refl
       go false q z = refl
 
--- a rank is lower, or the other is 0
-by-ranks : (rank r : ℕ) → (eqb rank 0 || ltb r rank) ≡ not (not (eqb rank 0) && leb rank r)
-by-ranks rank r = go (eqb rank 0) (leb rank r) refl
+  -- the report of the look-up, by the number k of the refusal
+  module _ (k : ℕ) (r : Report) (k-is : k ≡ successorFault s e d 0 .number) where
+    pub looked-refused : (k ≡ 0 → ⊥) → r ≡ result k e d n → r ≡ orElse (successorFault s e d n) (accepted n)
+    looked-refused z q =
+        let same : result k e d n ≡ successorFault s e d n = rw k-is (some-fault (λ w. z (k-is ∙ w))) in
+        q ∙ same ∙ sym (or-stop (successorFault s e d n) (accepted n) (λ w. z (ap (λ (f : Report). f .number) same ∙ w)))
+
+    pub looked-fine : k ≡ 0 → r ≡ accepted n → r ≡ orElse (successorFault s e d n) (accepted n)
+    looked-fine z q = q ∙ rw (no-fault (sym k-is ∙ z)) (sym (or-next fine (accepted n) refl))
+
+  pub fault-count : successorFault s e d n .count ≤ n
+  unfolding successorFault need
+  fault-count = go (isListed s d (nextModeOf s e)) (isLower s e (entryFor s d (nextModeOf s e)))
+    where
+      go : (p q : Bool) → need p (result 14 e d n) (need q (result 15 e d n) fine) .count ≤ n
+      go true true = omega arith
+      go true false = omega arith
+      go false q = omega arith
+
+-- a rank r is lower than the rank of the entry judged, or that is 0; the table has r + 1
+by-ranks : (rank r : ℕ) → (eqb rank 0 || ltb r rank) ≡ not (not (eqb rank 0) && ltb rank (r + 1))
+by-ranks rank r = go (eqb rank 0) (ltb rank (r + 1)) refl
   where
-    go : (z q : Bool) → leb rank r ≡ q → (z || ltb r rank) ≡ not (not z && q)
+    go : (z q : Bool) → ltb rank (r + 1) ≡ q → (z || ltb r rank) ≡ not (not z && q)
     go true q e = refl
-    go false true e = le-ltb r rank (leb-true rank r e)
-    go false false e = lt-ltb r rank (leb-false rank r e)
+    go false true e = le-ltb r rank (omega (arith, ltb-true rank (r + 1) e))
+    go false false e = lt-ltb r rank (omega (arith, ltb-false rank (r + 1) e))
 
--- successor d is looked up and found as entry f
-module _ {s : List ℕ} {task : Task} (is : IsTask s task) (d f : ℕ) (found : f ≡ entryFor s d (task .mode)) where
-  same : entryFor s d (nextModeOf s (task .entry)) ≡ f
-  same = rw (← is .mode-is) (sym found)
+-- a slot of the table of ranks is 0 exactly where the pair is not listed
+slot-empty : (b : Bool) (r v : ℕ) → v ≡ pick b (r + 1) 0 → v ≡ 0 → b ≡ false
+slot-empty true r v e z = absurd (omega arith)
+slot-empty false r v e z = refl
 
-  pub is-unlisted : f ≡ task .entries → 14 ≡ successorFault s (task .entry) d 0 .number
-  unfolding successorFault isListed
-  is-unlisted q =
-      let no-entry = le-ltb (entryFor s d (nextModeOf s (task .entry))) (entriesOf s) (omega (arith, same, is .entries-is)) in
-      rw (need-fail _ _ _ no-entry)
+slot-full : (b : Bool) (r v : ℕ) → v ≡ pick b (r + 1) 0 → (v ≡ 0 → ⊥) → (b ≡ true) × (v ≡ r + 1)
+slot-full true r v e z = (refl, e)
+slot-full false r v e z = absurd (z e)
 
-  module _ (there : f ≡ task .entries → ⊥) (r : ℕ) (its-rank : r ≡ rankOf s f) where
-    listed : isListed s d (nextModeOf s (task .entry)) ≡ true
-    unfolding isListed
-    listed = lt-ltb (entryFor s d (nextModeOf s (task .entry))) (entriesOf s) (omega (arith, same, is .entries-is, for-most s d (nextModeOf s (task .entry))))
+-- successor d is looked up: v is what the table of ranks has for it and the next mode
+module _ {s : List ℕ} {task : Task} (is : IsTask s task) (ranks : List ℕ) (table : RanksOf s ranks) (d : ℕ) (inside : d < task .cells) (v : ℕ) (v-is : v ≡ getD ranks (task .row + d) 0) where
+  slot : v ≡ rankAt s d (nextModeOf s (task .entry))
+  slot = v-is ∙ rw (is .row-is) (table _ d (is .next-exists) (rw (is .cells-is) at inside))
 
-    lower : isLower s (task .entry) (entryFor s d (nextModeOf s (task .entry))) ≡ not (not (eqb (task .rank) 0) && leb (task .rank) r)
+  pub is-unlisted : v ≡ 0 → 14 ≡ successorFault s (task .entry) d 0 .number
+  unfolding successorFault rankAt
+  is-unlisted z = rw (need-fail _ _ _ (slot-empty _ _ v slot z))
+
+  module _ (there : v ≡ 0 → ⊥) where
+    full : (isListed s d (nextModeOf s (task .entry)) ≡ true) × (v ≡ rankOf s (entryFor s d (nextModeOf s (task .entry))) + 1)
+    unfolding rankAt
+    full = slot-full _ _ v slot there
+
+    lower : isLower s (task .entry) (entryFor s d (nextModeOf s (task .entry))) ≡ not (not (eqb (task .rank) 0) && ltb (task .rank) v)
     unfolding isLower
-    lower = rw (same, ← its-rank, ← is .rank-is) (by-ranks (task .rank) r)
+    lower = rw (full .1, is .rank-is) (by-ranks (rankOf s (task .entry)) (rankOf s (entryFor s d (nextModeOf s (task .entry)))))
 
-    pub is-higher : (not (eqb (task .rank) 0) && leb (task .rank) r) ≡ true → 15 ≡ successorFault s (task .entry) d 0 .number
+    pub is-higher : (not (eqb (task .rank) 0) && ltb (task .rank) v) ≡ true → 15 ≡ successorFault s (task .entry) d 0 .number
     unfolding successorFault
-    is-higher v = rw (need-pass _ _ _ listed, need-fail _ _ _ (lower ∙ ap not v))
+    is-higher h = rw (need-pass _ _ _ (full .0), need-fail _ _ _ (lower ∙ ap not h))
 
-    pub is-lower : (not (eqb (task .rank) 0) && leb (task .rank) r) ≡ false → 0 ≡ successorFault s (task .entry) d 0 .number
+    pub is-lower : (not (eqb (task .rank) 0) && ltb (task .rank) v) ≡ false → 0 ≡ successorFault s (task .entry) d 0 .number
     unfolding successorFault
-    is-lower v = rw (need-pass _ _ _ listed, need-pass _ _ _ (lower ∙ ap not v))
+    is-lower h = rw (need-pass _ _ _ (full .0), need-pass _ _ _ (lower ∙ ap not h))

@@ -1,6 +1,6 @@
 -- When a certificate is accepted. Entries are judged in order; within one: safe, rank against goal, then arrival boxes
 -- ascending and successor cells ascending, each first for being listed, then for its rank. The count n goes along.
-use Prim.Native.Nat.{ℕ, _+_, _≤_, _<_}
+use Prim.Native.Nat.{ℕ, _+_, _*_, _≤_, _<_}
 use mathlib.Core.List.{List}
 use mathlib.Core.Bool.{Bool, not, _||_, cond}
 use mathlib.Core.Path.{_≡_}
@@ -9,7 +9,7 @@ use lib.ListN.{getD}
 use Rattle.certificate.specs.declared.Report.{Report}
 use Rattle.certificate.specs.Loops.{pick, every, from}
 use Rattle.certificate.specs.Checks.{result, fine, need, orElse}
-use Rattle.certificate.specs.Layout.{maxEntries, maxBoxes, maxCells, entriesStart, linksOf, safeOf, goalOf, cellsOf, boxesOf, entriesOf, cellOf, signalOf, nextModeOf, rankOf}
+use Rattle.certificate.specs.Layout.{maxEntries, maxBoxes, maxCells, linksOf, modesOf, safeOf, goalOf, cellsOf, boxesOf, entriesOf, cellOf, signalOf, nextModeOf, rankOf}
 use Rattle.grid.specs.Cells.{upperOf}
 use Rattle.grid.specs.Successors.{isSuccessor}
 use Rattle.judging.specs.declared.Task.{Task}
@@ -87,16 +87,15 @@ cellsFrom s e b d n = from (cellTurn s e b) (boxesFrom s e (b + 1)) (cellsOf s) 
 unfoldable pub entryAlone : List ℕ → ℕ → ℕ → Report
 entryAlone s e n = entryTurn s e n accepted
 
--- the task of entry e: the numbers are those of the certificate and of the entry
+-- the task of an entry: the numbers are those of the certificate and of the entry, and `row` is where the next mode's ranks stand
 pub record IsTask (s : List ℕ) (task : Task) : Type 0 where
-  pub start-is : task .start ≡ entriesStart s
-  pub start-most : task .start ≤ 100000
-  pub entries-is : task .entries ≡ entriesOf s
-  pub entries-most : task .entries ≤ maxEntries
   pub boxes-is : task .boxes ≡ boxesOf s
   pub boxes-most : task .boxes ≤ maxBoxes
   pub cells-is : task .cells ≡ cellsOf s
   pub cells-most : task .cells ≤ maxCells
-  pub entry-exists : task .entry < task .entries
-  pub mode-is : task .mode ≡ nextModeOf s (task .entry)
+  pub entry-exists : task .entry < entriesOf s
+  pub entry-most : task .entry < maxEntries
+  pub next-exists : nextModeOf s (task .entry) < modesOf s
+  pub row-is : task .row ≡ nextModeOf s (task .entry) * cellsOf s
+  pub row-fits : task .row + task .cells ≤ 32768
   pub rank-is : task .rank ≡ rankOf s (task .entry)

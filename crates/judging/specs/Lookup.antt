@@ -1,12 +1,12 @@
 -- Looking up the entry of a cell and a mode.
-use Prim.Native.Nat.{ℕ, _≤_, _<_}
+use Prim.Native.Nat.{ℕ, _+_, _*_, _≤_, _<_}
 use mathlib.Core.List.{List}
 use mathlib.Core.Bool.{Bool, _&&_}
 use mathlib.Core.Path.{_≡_}
 use lib.Dec.{eqb, leb, ltb}
 use lib.ListN.{getD}
-use Rattle.certificate.specs.Loops.{find}
-use Rattle.certificate.specs.Layout.{entriesOf, cellsOf, cellOf, modeOf}
+use Rattle.certificate.specs.Loops.{pick, find}
+use Rattle.certificate.specs.Layout.{modesOf, entriesOf, cellsOf, cellOf, modeOf, rankOf}
 
 -- entry e has the pair (c, m)
 abbrev pub isFor : List ℕ → ℕ → ℕ → ℕ → Bool
@@ -31,3 +31,15 @@ IsIndex s index = (d : ℕ) → d ≤ cellsOf s → getD index d 0 ≡ entryFrom
 -- the cells of the entries ascend: those of one cell stand one after another
 abbrev pub CellsAscend : List ℕ → Type 0
 CellsAscend s = (e f : ℕ) → e ≤ f → f < entriesOf s → cellOf s e ≤ cellOf s f
+
+-- the rank of the entry of cell d and mode m, raised by one; 0 where the pair is not listed
+unfoldable pub rankAt : List ℕ → ℕ → ℕ → ℕ
+rankAt s d m = pick (isListed s d m) (rankOf s (entryFor s d m) + 1) 0
+
+-- a table of these, the cells of one mode after those of the mode before it
+abbrev pub RanksOf : List ℕ → List ℕ → Type 0
+RanksOf s a = (m d : ℕ) → m < modesOf s → d < cellsOf s → getD a (m * cellsOf s + d) 0 ≡ rankAt s d m
+
+-- the entries of cell d stand from first to before end
+abbrev pub CellFrom : List ℕ → ℕ → ℕ → ℕ → Type 0
+CellFrom s d first end = (first ≡ entryFrom s d) × (end ≡ entryFrom s (d + 1))

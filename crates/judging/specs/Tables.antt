@@ -1,11 +1,10 @@
 -- What judging finds out once of a certificate, once of an entry, and once of an entry under an arrival box.
-use Prim.Native.Nat.{ℕ, _*_, _≤_, _<_}
+use Prim.Native.Nat.{ℕ, _+_, _*_, _/_, _%_, _≤_, _<_}
 use mathlib.Core.List.{List}
 use mathlib.Core.Path.{_≡_}
 use lib.ListN.{getD}
-use Rattle.certificate.specs.declared.reading.Layout.{Layout}
-use Rattle.certificate.specs.Layout.{linksOf, cellOf, signalOf}
-use Rattle.certificate.specs.Laid.{LaidOut}
+use Rattle.certificate.specs.Octets.{u16At}
+use Rattle.certificate.specs.Layout.{linksOf, boxesOf, capOf, arrivalAt, lowOf, highOf, cellOf, signalOf}
 use Rattle.network.specs.Network.{networkOf, limitOf}
 use Rattle.network.specs.Flow.{gross}
 use Rattle.network.specs.Image.{lowCorner, highCorner}
@@ -15,19 +14,34 @@ use Rattle.grid.specs.Cells.{lowerOf, upperOf}
 use Rattle.grid.specs.Successors.{imageLow, imageHigh}
 use Rattle.grid.specs.Laws.{ImageOf}
 use Rattle.grid.specs.Tables.{Holds, EdgesOf, DigitsOf, GridOf, Bounded, inRanges}
-use Rattle.judging.specs.Lookup.{IsIndex}
+use Rattle.judging.specs.declared.LinkTables.{LinkTables}
+use Rattle.judging.specs.Lookup.{RanksOf}
 use Rattle.judging.specs.Judging.{follows}
 
--- the tables of a certificate that passes the tests before 12: the index of entries by cell, the intervals of each cell, the edges,
--- counts and weights of the links, and where each link's turns begin
-pub record TablesOf (s : List ℕ) (layout : Layout) (index digits edges counts weights first : List ℕ) : Type 0 where
+-- ten thousand times the cap of each link
+abbrev pub CapsOf : List ℕ → List ℕ → Type 0
+CapsOf s a = Holds (linksOf s) (λ l. 10000 * capOf s l) a
+
+-- sixteen a box: for each link ten thousand times the least and the most that arrives
+pub record ArrivalsOf (s a : List ℕ) : Type 0 where
+  pub low-is : (b l : ℕ) → b < boxesOf s → l < linksOf s → getD a (16 * b + 2 * l) 0 ≡ 10000 * lowOf s b l
+  pub high-is : (b l : ℕ) → b < boxesOf s → l < linksOf s → getD a (16 * b + 1 + 2 * l) 0 ≡ 10000 * highOf s b l
+
+-- entry k of that table: field k % 16 of box k / 16
+unfoldable pub arrivalEntry : List ℕ → ℕ → ℕ
+arrivalEntry s k = 10000 * u16At s (arrivalAt s (k / 16) + (2 + 2 * (k % 16)))
+
+-- the tables of a certificate that passes the tests before 12: those of its links, the ranks by mode and cell, the intervals of each
+-- cell, the edges of the links' intervals, and the arrivals of each box
+pub record TablesOf (s : List ℕ) (tables : LinkTables) (ranks digits edges arrivals : List ℕ) : Type 0 where
   pub screened : Screened s
-  pub laid : LaidOut s layout
-  pub indexed : IsIndex s index
+  pub grid : GridOf s (tables .counts) (tables .weights) (tables .links)
+  pub cap : CapsOf s (tables .caps)
+  pub turn : FirstTurns s (tables .«first_turns»)
+  pub ranked : RanksOf s ranks
   pub digit : DigitsOf s digits
   pub edge : EdgesOf s edges
-  pub grid : GridOf s counts weights (layout .links)
-  pub turn : FirstTurns s first
+  pub arrival : ArrivalsOf s arrivals
 
 -- the edges of cell c on every link
 pub record CellEdges (s : List ℕ) (c : ℕ) (lower upper : List ℕ) : Type 0 where

@@ -1,39 +1,29 @@
-// The ranges of intervals that meet an entry's image under one arrival box. `low` and `high` are the image's ends before arrivals.
+// The ranges of intervals that meet an entry's image under one arrival box. `before` has the image's ends before arrivals.
 ghost use mathlib.Core.Path.{_≡_};
 ghost use Prim.Native.Nat.{ℕ, _+_, _*_, _<_, _≤_, min};
 ghost use lib.ListN.{getD};
-ghost use Rattle.certificate.specs.Layout.{linksOf, capOf, boxesOf, lowOf, highOf, entriesOf};
-ghost use Rattle.certificate.specs.Laid.{LaidOut};
+ghost use Rattle.certificate.specs.Layout.{linksOf, boxesOf, entriesOf};
 ghost use Rattle.network.specs.Laws.{Screened};
 ghost use Rattle.grid.specs.Tables.{EdgesOf, CountsOf};
-ghost use Rattle.judging.specs.Tables.{EntryEnds, EntryImage, BoxRanges};
-use certificate::arrivals;
-use certificate::reading::Layout;
+ghost use Rattle.judging.specs.Tables.{CapsOf, ArrivalsOf, EntryEnds, EntryImage, BoxRanges};
+use crate::LinkTables;
 use grid::ranges;
 use network::ends;
 
-fn low_ends(s: &[u8], layout: Layout, low: &[usize; 8], b: usize) -> [usize; 8]
-    requires { ⌜ LaidOut (now s) layout × (b < boxesOf (now s)) × ((l : ℕ) → l < linksOf (now s) → getD (now low) l 0 ≤ 10000000000) ⌝ }
-    ensures { λ r. ⌜ ((l : ℕ) → l < linksOf (now (s .entry)) → getD r l 0 ≡ min (10000 * capOf (now (s .entry)) l) (getD (now (low .entry)) l 0 + 10000 * lowOf (now (s .entry)) b l)) ⌝ }
+// The low or the high ends with the arrivals of a box, which stand at every second place from `at` on: at most cap.
+fn ends_under(
+    links: usize,
+    caps: &[usize; 8],
+    before: &[usize; 8],
+    arrivals: &[usize; 128],
+    at: usize,
+) -> [usize; 8]
+    requires { ⌜ (links ≤ 8) × (at ≤ 113) × ((l : ℕ) → l < links → (getD (now before) l 0 ≤ 10000000000) × (getD (now arrivals) (at + 2 * l) 0 ≤ 10000000000)) ⌝ }
+    ensures { λ r. ⌜ ((l : ℕ) → l < links → getD r l 0 ≡ min (getD (now (caps .entry)) l 0) (getD (now (before .entry)) l 0 + getD (now (arrivals .entry)) (at + 2 * l) 0)) ⌝ }
 {
-    let links = layout.links;
-    let start = layout.arrivals_start;
     let mut r = [0usize; 8];
     for l in 0..links {
-        r[l] = ends::end_of(s, l, low[l], arrivals::low_of(s, start, links, b, l));
-    }
-    r
-}
-
-fn high_ends(s: &[u8], layout: Layout, high: &[usize; 8], b: usize) -> [usize; 8]
-    requires { ⌜ LaidOut (now s) layout × (b < boxesOf (now s)) × ((l : ℕ) → l < linksOf (now s) → getD (now high) l 0 ≤ 10000000000) ⌝ }
-    ensures { λ r. ⌜ ((l : ℕ) → l < linksOf (now (s .entry)) → getD r l 0 ≡ min (10000 * capOf (now (s .entry)) l) (getD (now (high .entry)) l 0 + 10000 * highOf (now (s .entry)) b l)) ⌝ }
-{
-    let links = layout.links;
-    let start = layout.arrivals_start;
-    let mut r = [0usize; 8];
-    for l in 0..links {
-        r[l] = ends::end_of(s, l, high[l], arrivals::high_of(s, start, links, b, l));
+        r[l] = ends::end_of(caps[l], before[l], arrivals[at + 2 * l]);
     }
     r
 }
@@ -41,38 +31,40 @@ fn high_ends(s: &[u8], layout: Layout, high: &[usize; 8], b: usize) -> [usize; 8
 // The image of entry e's cell under its signal and box b: the smallest closed box that holds all exact next queues.
 fn image_of(
     s: &[u8],
-    layout: Layout,
-    low: &[usize; 8],
-    high: &[usize; 8],
+    tables: LinkTables,
+    arrivals: &[usize; 128],
+    before: ends::Ends,
     e: usize,
     b: usize,
 ) -> ends::Ends
-    requires { ⌜ Screened (now s) × LaidOut (now s) layout × EntryEnds (now s) e (now low) (now high) × (e < entriesOf (now s)) × (b < boxesOf (now s)) ⌝ }
+    requires { ⌜ Screened (now s) × (tables .links ≡ linksOf (now s)) × CapsOf (now s) (tables .caps) × ArrivalsOf (now s) (now arrivals) × EntryEnds (now s) e (before .low) (before .high) × (e < entriesOf (now s)) × (b < boxesOf (now s)) ⌝ }
     ensures { λ r. ⌜ EntryImage (now (s .entry)) e b (r .low) (r .high) ⌝ }
 {
-    let from = low_ends(s, layout, low, b);
-    let to = high_ends(s, layout, high, b);
-    ends::Ends {
-        low: from,
-        high: to,
-    }
+    let low = ends_under(tables.links, &tables.caps, &before.low, arrivals, 16 * b);
+    let high = ends_under(
+        tables.links,
+        &tables.caps,
+        &before.high,
+        arrivals,
+        16 * b + 1,
+    );
+    ends::Ends { low, high }
 }
 
 pub fn box_ranges(
     s: &[u8],
-    layout: Layout,
+    tables: LinkTables,
     edges: &[usize; 128],
-    counts: &[usize; 8],
-    low: &[usize; 8],
-    high: &[usize; 8],
+    arrivals: &[usize; 128],
+    before: ends::Ends,
     e: usize,
     b: usize,
 ) -> ranges::Ranges
-    requires { ⌜ Screened (now s) × LaidOut (now s) layout × EdgesOf (now s) (now edges) × CountsOf (now s) (now counts) × EntryEnds (now s) e (now low) (now high) × (e < entriesOf (now s)) × (b < boxesOf (now s)) ⌝ }
+    requires { ⌜ Screened (now s) × (tables .links ≡ linksOf (now s)) × CountsOf (now s) (tables .counts) × CapsOf (now s) (tables .caps) × EdgesOf (now s) (now edges) × ArrivalsOf (now s) (now arrivals) × EntryEnds (now s) e (before .low) (before .high) × (e < entriesOf (now s)) × (b < boxesOf (now s)) ⌝ }
     ensures { λ r. ⌜ BoxRanges (now (s .entry)) e b (r .first) (r .last) ⌝ }
 {
-    let image = image_of(s, layout, low, high, e, b);
+    let image = image_of(s, tables, arrivals, before, e, b);
     let from = image.low;
     let to = image.high;
-    ranges::ranges_of(s, edges, counts, layout.links, &from, &to)
+    ranges::ranges_of(s, edges, &tables.counts, tables.links, &from, &to)
 }

@@ -1,4 +1,4 @@
-// What judging finds out once of an entry: the edges of its cell, and the ends of its image before arrivals.
+// What judging finds out once of an entry: its task, the edges of its cell, and the ends of its image before arrivals.
 ghost use mathlib.Core.Path.{_≡_};
 ghost use Prim.Native.Nat.{_<_};
 ghost use Rattle.certificate.specs.Facts.{Readable};
@@ -8,7 +8,9 @@ ghost use Rattle.certificate.specs.Laid.{LaidOut};
 ghost use Rattle.network.specs.Laws.{Screened};
 ghost use Rattle.network.specs.Roads.{FirstTurns};
 ghost use Rattle.grid.specs.Tables.{EdgesOf, DigitsOf};
+ghost use Rattle.judging.specs.Judging.{IsTask};
 ghost use Rattle.judging.specs.Tables.{CellEdges, EntryEnds};
+use crate::Task;
 use certificate::entries;
 use certificate::reading::Layout;
 use certificate::signals;
@@ -17,6 +19,22 @@ use network::ends;
 pub struct Edges {
     pub lower: [usize; 8],
     pub upper: [usize; 8],
+}
+
+// The task of entry e.
+pub fn task_of(s: &[u8], layout: Layout, e: usize) -> Task
+    requires { ⌜ Readable (now s) × LaidOut (now s) layout × (e < entriesOf (now s)) ⌝ }
+    ensures { λ r. ⌜ IsTask (now (s .entry)) r × (r .entry ≡ e) ⌝ }
+{
+    let start = layout.entries_start;
+    let cells = layout.cells;
+    Task {
+        boxes: layout.boxes,
+        cells,
+        entry: e,
+        row: entries::next_mode_of(s, start, e) * cells,
+        rank: entries::rank_of(s, start, e),
+    }
 }
 
 fn wide(x: u8) -> usize

@@ -1,20 +1,30 @@
 // Judging a policy: looking entries up, refusals 12 to 15 with their count, and the verdict of a byte string.
+pub mod amounts;
 pub mod boxes;
 pub mod entry;
 pub mod index;
 pub mod lookup;
+pub mod ranks;
 pub mod search;
 pub mod standing;
 pub mod verdict;
 
-// What the search through an entry's successors goes by: where the entries start, how many entries, arrival boxes and
-// cells there are, and the entry's number, next mode and rank.
+// What the search through an entry's successors goes by: how many arrival boxes and cells there are, and the entry's number,
+// where the ranks of its next mode stand, and its own rank.
 pub struct Task {
-    pub start: usize,
-    pub entries: usize,
     pub boxes: usize,
     pub cells: usize,
     pub entry: usize,
-    pub mode: usize,
+    pub row: usize,
     pub rank: usize,
+}
+
+// What judging knows of the links, once for a certificate: how many there are, and for each how many intervals it has, how many
+// cells one of them spans, ten thousand times its cap, and where its turns begin.
+pub struct LinkTables {
+    pub links: usize,
+    pub counts: [usize; 8],
+    pub weights: [usize; 8],
+    pub caps: [usize; 8],
+    pub first_turns: [usize; 9],
 }

@@ -3,7 +3,7 @@ ghost use mathlib.Core.Path.{_≡_};
 ghost use Prim.Native.Nat.{_≤_};
 ghost use Rattle.certificate.specs.Checks.{result};
 ghost use Rattle.certificate.specs.Layout.{linksOf, rankOf};
-ghost use Rattle.judging.specs.Judging.{isSafe, isGoal, standingFault, UpperEdges};
+ghost use Rattle.judging.specs.Judging.{isSafe, isGoal, isRanked, standingFault, UpperEdges};
 use certificate::Report;
 use certificate::links;
 
@@ -24,6 +24,14 @@ fn limits_of(s: &[u8], links: usize, e: usize, upper: &[usize; 8]) -> Limits
         goal = goal & (upper[l] <= links::goal_of(s, l));
     }
     Limits { safe, goal }
+}
+
+// The rank of entry e is 0 exactly at the goal.
+fn rank_fits(s: &[u8], e: usize, rank: usize, goal: bool) -> bool
+    requires { ⌜ (rank ≡ rankOf (now s) e) × (goal ≡ isGoal (now s) e) ⌝ }
+    ensures { λ r. ⌜ r ≡ isRanked (now (s .entry)) e ⌝ }
+{
+    (rank == 0) == goal
 }
 
 // A result of judging: number, entry, cell and count.
@@ -55,7 +63,7 @@ pub fn check_standing(
     if !cell.safe {
         return report(12, e, 0, count);
     }
-    if (rank == 0) != cell.goal {
+    if !rank_fits(s, e, rank, cell.goal) {
         return report(13, e, 0, count);
     }
     report(0, 0, 0, 0)

@@ -1,15 +1,22 @@
 // The verdict of any bytes: all tests before 12, then every entry in order.
 ghost use mathlib.Core.Path.{_≡_};
 ghost use Prim.Native.Nat.{_+_, _*_, _<_, _≤_};
+ghost use lib.ListN.{length};
 ghost use Rattle.certificate.specs.Layout.{entriesOf, boxesOf, cellsOf};
+ghost use Rattle.certificate.specs.Facts.{Readable};
 ghost use Rattle.certificate.specs.Laid.{LaidOut};
 ghost use Rattle.network.specs.Laws.{Screened};
+ghost use Rattle.network.specs.Roads.{FirstTurns};
+ghost use Rattle.grid.specs.Tables.{GridOf};
+ghost use Rattle.judging.specs.Lookup.{RanksOf};
 ghost use Rattle.judging.specs.Judging.{entryAlone, judgingFrom};
-ghost use Rattle.judging.specs.Tables.{TablesOf};
+ghost use Rattle.judging.specs.Tables.{CapsOf, TablesOf};
 ghost use Rattle.judging.specs.Verdict.{verdictOf};
-use crate::Task;
+use crate::LinkTables;
+use crate::amounts;
 use crate::entry;
 use crate::index;
+use crate::ranks;
 use crate::search;
 use crate::standing;
 use certificate::Report;
@@ -24,57 +31,36 @@ use network::supply;
 fn judge_entry(
     s: &[u8],
     layout: Layout,
-    index: &[u16; 4097],
+    tables: LinkTables,
+    ranks: &[u32; 32768],
     digits: &[u8; 32768],
     edges: &[usize; 128],
-    counts: &[usize; 8],
-    weights: &[usize; 8],
-    first: &[usize; 9],
+    arrivals: &[usize; 128],
     e: usize,
     count: u32,
 ) -> Report
-    requires { ⌜ TablesOf (now s) layout (now index) (now digits) (now edges) (now counts) (now weights) (now first) × (e < layout .entries) × (count ≤ 32768 * e) ⌝ }
+    requires { ⌜ LaidOut (now s) layout × TablesOf (now s) tables (now ranks) (now digits) (now edges) (now arrivals) × (e < entriesOf (now s)) × (count ≤ 32768 * e) ⌝ }
     ensures { λ r. ⌜ (r ≡ entryAlone (now (s .entry)) e count) × (r .count ≤ 32768 * (e + 1)) ⌝ }
 {
-    let start = layout.entries_start;
-    let rank = entries::rank_of(s, start, e);
-    let cell = entry::cell_edges(
-        s,
-        digits,
-        edges,
-        layout.links,
-        entries::cell_of(s, start, e),
-    );
+    let task = entry::task_of(s, layout, e);
+    let c = entries::cell_of(s, layout.entries_start, e);
+    let cell = entry::cell_edges(s, digits, edges, tables.links, c);
     let lower = cell.lower;
     let upper = cell.upper;
-    let f = standing::check_standing(s, layout.links, e, rank, &upper, count);
+    let f = standing::check_standing(s, tables.links, e, task.rank, &upper, count);
     if f.number != 0 {
         return f;
     }
-    let ends = entry::entry_ends(s, layout, first, e, &lower, &upper);
-    let task = Task {
-        start,
-        entries: layout.entries,
-        boxes: layout.boxes,
-        cells: layout.cells,
-        entry: e,
-        mode: entries::next_mode_of(s, start, e),
-        rank,
-    };
-    let low = ends.low;
-    let high = ends.high;
+    let before = entry::entry_ends(s, layout, &tables.first_turns, e, &lower, &upper);
     search::search_boxes(
         s,
         task,
-        layout,
-        index,
+        tables,
+        ranks,
         digits,
         edges,
-        counts,
-        weights,
-        first,
-        &low,
-        &high,
+        arrivals,
+        before,
         count,
     )
 }
@@ -83,37 +69,56 @@ fn judge_entry(
 fn judge_entries(
     s: &[u8],
     layout: Layout,
-    index: &[u16; 4097],
+    tables: LinkTables,
+    ranks: &[u32; 32768],
     digits: &[u8; 32768],
     edges: &[usize; 128],
-    counts: &[usize; 8],
-    weights: &[usize; 8],
-    first: &[usize; 9],
+    arrivals: &[usize; 128],
 ) -> Report
-    requires { ⌜ TablesOf (now s) layout (now index) (now digits) (now edges) (now counts) (now weights) (now first) ⌝ }
+    requires { ⌜ LaidOut (now s) layout × TablesOf (now s) tables (now ranks) (now digits) (now edges) (now arrivals) ⌝ }
     ensures { λ r. ⌜ r ≡ judgingFrom (now (s .entry)) 0 0 ⌝ }
 {
     let entries = layout.entries;
     let mut count: u32 = 0;
     for e in 0..entries {
-        let r = judge_entry(
-            s,
-            layout,
-            index,
-            digits,
-            edges,
-            counts,
-            weights,
-            first,
-            e,
-            count,
-        );
+        let r = judge_entry(s, layout, tables, ranks, digits, edges, arrivals, e, count);
         if r.number != 0 {
             return r;
         }
         count = r.count;
     }
     standing::report(0, 0, 0, count)
+}
+
+// The tables of the links.
+fn link_tables(s: &[u8], layout: Layout) -> LinkTables
+    requires { ⌜ Readable (now s) × LaidOut (now s) layout ⌝ }
+    ensures { λ r. ⌜ GridOf (now (s .entry)) (r .counts) (r .weights) (r .links) × CapsOf (now (s .entry)) (r .caps) × FirstTurns (now (s .entry)) (r .«first_turns») ⌝ }
+{
+    let links = layout.links;
+    let places = layout.grids;
+    let counts = tables::counts_of(s, &places, links);
+    let weights = tables::weights_of(s, &counts, links, layout.cells);
+    let caps = amounts::caps_of(s, links);
+    let first_turns = supply::first_turns(s, layout.turns_start, layout.turns);
+    LinkTables {
+        links,
+        counts,
+        weights,
+        caps,
+        first_turns,
+    }
+}
+
+// Fills the table of ranks, by way of the index.
+fn rank_table(s: &[u8], layout: Layout, ranks: &mut [u32])
+    requires { ⌜ Readable (now s) × LaidOut (now s) layout × (length (now ranks) ≡ 32768) ⌝ }
+    ensures { λ _. ⌜ RanksOf (now (s .entry)) (now (ranks .exit)) ⌝ }
+{
+    let start = layout.entries_start;
+    let cells = layout.cells;
+    let index = index::index_of(s, start, layout.entries, cells);
+    ranks::fill_ranks(s, start, layout.entries, layout.modes, cells, &index, ranks);
 }
 
 // Makes the tables, once, and judges by them.
@@ -123,22 +128,15 @@ fn judge_screened(s: &[u8], layout: Layout) -> Report
 {
     let links = layout.links;
     let places = layout.grids;
-    let counts = tables::counts_of(s, &places, links);
-    let weights = tables::weights_of(s, &counts, links, layout.cells);
-    let edges = tables::edges_of(s, &places, links);
+    let tables = link_tables(s, layout);
+    let counts = tables.counts;
+    let weights = tables.weights;
     let digits = cells::digits_of(s, &counts, &weights, links, layout.cells);
-    let index = index::index_of(s, layout.entries_start, layout.entries, layout.cells);
-    let first = supply::first_turns(s, layout.turns_start, layout.turns);
-    judge_entries(
-        s,
-        layout,
-        &index,
-        &digits,
-        &edges,
-        &counts,
-        &weights,
-        &first,
-    )
+    let edges = tables::edges_of(s, &places, links);
+    let arrivals = amounts::arrivals_of(s, layout.arrivals_start, links, layout.boxes);
+    let mut ranks = [0u32; 32768];
+    rank_table(s, layout, &mut ranks);
+    judge_entries(s, layout, tables, &ranks, &digits, &edges, &arrivals)
 }
 
 // The verdict.

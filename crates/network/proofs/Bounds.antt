@@ -1,9 +1,11 @@
--- The links that a turn joins are among eight. Assumes nothing.
-use Prim.Native.Nat.{ℕ, _≤_, _<_}
+-- The links that a turn joins are among eight, and its record is there whole. Assumes nothing.
+use Prim.Native.Nat.{ℕ, _+_, _≤_, _<_}
 use mathlib.Core.List.{List}
 use native.Mathlib.Omega.{arith}
-use Rattle.certificate.specs.Layout.{linksOf, capOf, flowOf, fromOf, toOf}
+use lib.ListN.{length}
+use Rattle.certificate.specs.Layout.{turnAt, turnSize, linksOf, capOf, flowOf, fromOf, toOf}
 use Rattle.certificate.specs.Facts.{Readable}
+use Rattle.certificate.proofs.Offsets.{starts, turn-end}
 use Rattle.network.specs.Roads.{Roads, at, WithinCaps}
 
 module _ {s : List ℕ} {start turns links : ℕ} (R : Roads s start turns links) where
@@ -27,6 +29,9 @@ module _ {s : List ℕ} {start turns links : ℕ} (R : Roads s start turns links
 
   pub to-room : (t : ℕ) → t < turns → flowOf s (toOf s t) ≤ capOf s (toOf s t)
   to-room t h = R .readable .link (toOf s t) (omega (arith, to-link t h)) .flow-most
+
+  pub turn-whole : (t : ℕ) → t < turns → turnAt s t + turnSize ≤ length s
+  turn-whole t h = omega (arith, turn-end s t (omega arith), starts s, R .readable .whole)
 
 -- no queue within the caps exceeds 10,000
 pub queue-most : {s x : List ℕ} → Readable s → WithinCaps s x → (l : ℕ) → l < linksOf s → at x l ≤ 10000

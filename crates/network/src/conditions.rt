@@ -1,12 +1,12 @@
 // Conditions 10 and 11. `start` is where the records of turns begin, `greens` those of signals; `byte` has a signal's green links.
 ghost use mathlib.Core.Path.{_≡_};
-ghost use Prim.Native.Nat.{ℕ, _*_, _<_, _≤_};
+ghost use Prim.Native.Nat.{ℕ, _+_, _*_, _<_, _≤_};
 ghost use lib.Dec.{leb};
-ghost use lib.ListN.{getD};
+ghost use lib.ListN.{length, getD};
 ghost use Rattle.certificate.specs.Octets.{bitOf};
 ghost use Rattle.certificate.specs.Loops.{pick};
 ghost use Rattle.certificate.specs.Checks.{result, fine, need};
-ghost use Rattle.certificate.specs.Layout.{signalsOf, capOf, flowOf, turnsStart, fromOf, toOf, shareOf, pullOf, signalsStart, greenByteOf};
+ghost use Rattle.certificate.specs.Layout.{signalsOf, capOf, flowOf, turnsStart, turnAt, turnSize, fromOf, toOf, shareOf, pullOf, signalsStart, greenByteOf};
 ghost use Rattle.network.specs.Network.{networkOf};
 ghost use Rattle.network.specs.Conditions.{pullSum, signalPullsFault, pullsFault, roomOk, roomFault, roomsFault};
 ghost use Rattle.network.specs.Roads.{Roads};
@@ -26,19 +26,19 @@ pub fn is_green(byte: usize, l: usize) -> bool
 
 // Whether turn t leads from a green link.
 fn from_green(s: &[u8], start: usize, byte: usize, t: usize) -> bool
-    requires { ⌜ (t < 256) × (start ≤ 100000) × (start ≡ turnsStart (now s)) × (fromOf (now s) t < 8) ⌝ }
+    requires { ⌜ (t < 256) × (start ≤ 100000) × (start ≡ turnsStart (now s)) × (fromOf (now s) t < 8) × (turnAt (now s) t + turnSize ≤ length (now s)) ⌝ }
     ensures { λ r. ⌜ r ≡ bitOf byte (fromOf (now (s .entry)) t) ⌝ }
 {
-    is_green(byte, turns::from_of(s, start, t))
+    is_green(byte, turns::from_within(s, start, t))
 }
 
 // Share × pull of turn t where its from link is green, else 0.
 fn green_pull(s: &[u8], start: usize, byte: usize, t: usize) -> usize
-    requires { ⌜ (t < 256) × (start ≤ 100000) × (start ≡ turnsStart (now s)) × (fromOf (now s) t < 8) ⌝ }
+    requires { ⌜ (t < 256) × (start ≤ 100000) × (start ≡ turnsStart (now s)) × (fromOf (now s) t < 8) × (turnAt (now s) t + turnSize ≤ length (now s)) ⌝ }
     ensures { λ r. ⌜ (r ≡ pick (bitOf byte (fromOf (now (s .entry)) t)) (shareOf (now (s .entry)) t * pullOf (now (s .entry)) t) 0) × (r ≤ 16711425) ⌝ }
 {
     if from_green(s, start, byte, t) {
-        return turns::share_of(s, start, t) * turns::pull_of(s, start, t);
+        return turns::share_within(s, start, t) * turns::pull_within(s, start, t);
     }
     0
 }
@@ -50,7 +50,7 @@ fn pull_sums(s: &[u8], start: usize, turns: usize, links: usize, byte: usize) ->
 {
     let mut sums = [0usize; 8];
     for t in 0..turns {
-        let to = turns::to_of(s, start, t);
+        let to = turns::to_within(s, start, t);
         let more = green_pull(s, start, byte, t);
         sums[to] = sums[to] + more;
     }

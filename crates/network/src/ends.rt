@@ -2,11 +2,11 @@
 // `start` is where the records of turns begin, `first` has where each link's turns begin, `byte` a signal's green links.
 ghost use mathlib.Core.Path.{_≡_};
 ghost use Prim.Native.Nat.{ℕ, _+_, _*_, _-_, _<_, _≤_, min};
+ghost use lib.ListN.{length};
 ghost use Rattle.certificate.specs.Loops.{sumTo};
-ghost use Rattle.certificate.specs.Layout.{turnsOf, turnsStart, capOf, fromOf, toOf, shareOf};
+ghost use Rattle.certificate.specs.Layout.{turnsOf, turnsStart, turnAt, turnSize, fromOf, toOf, shareOf};
 ghost use Rattle.network.specs.Roads.{Roads, at, FirstTurns, Spans, WithinCaps, Supplies, limitBy, Mosts, sentBy, into, Side, EndsBefore};
 use crate::supply;
-use certificate::links;
 use certificate::turns;
 
 pub struct Ends {
@@ -42,11 +42,11 @@ fn passed_by(
     far: &[usize; 32],
     t: usize,
 ) -> usize
-    requires { ⌜ (t < 256) × (start ≤ 100000) × (start ≡ turnsStart (now s)) × (fromOf (now s) t < 8) × Spans (now first) × (at (now most) (fromOf (now s) t) ≤ 1000000) ⌝ }
+    requires { ⌜ (t < 256) × (start ≤ 100000) × (start ≡ turnsStart (now s)) × (fromOf (now s) t < 8) × Spans (now first) × (at (now most) (fromOf (now s) t) ≤ 1000000) × (turnAt (now s) t + turnSize ≤ length (now s)) ⌝ }
     ensures { λ r. ⌜ (r ≡ shareOf (now (s .entry)) t * sentBy (now (first .entry)) (now (most .entry)) (now (near .entry)) (now (far .entry)) (fromOf (now (s .entry)) t) t) × (r ≤ 255000000) ⌝ }
 {
-    let j = turns::from_of(s, start, t);
-    turns::share_of(s, start, t) * supply::sent_by(first, most, near, far, j, t)
+    let j = turns::from_within(s, start, t);
+    turns::share_within(s, start, t) * supply::sent_by(first, most, near, far, j, t)
 }
 
 // What stays on each link and what comes in: the turns ascending, each added to its to link.
@@ -66,7 +66,7 @@ fn pass_on(
 {
     let mut ends = stays;
     for t in 0..turns {
-        let to = turns::to_of(s, start, t);
+        let to = turns::to_within(s, start, t);
         let more = passed_by(s, start, first, most, near, far, t);
         ends[to] = ends[to] + more;
     }
@@ -134,10 +134,10 @@ pub fn ends_of(
     Ends { low, high }
 }
 
-// An end with arrivals, cut at cap.
-pub fn end_of(s: &[u8], l: usize, before: usize, arrivals: usize) -> usize
-    requires { ⌜ (l < 256) × (before ≤ 10000000000) × (arrivals < 65536) ⌝ }
-    ensures { λ r. ⌜ (r ≡ min (10000 * capOf (now (s .entry)) l) (before + 10000 * arrivals)) × (r ≤ 655350000) ⌝ }
+// An end with arrivals, cut at cap; all in ten thousandths.
+pub fn end_of(cap: usize, before: usize, arrivals: usize) -> usize
+    requires { ⌜ (before ≤ 10000000000) × (arrivals ≤ 10000000000) ⌝ }
+    ensures { λ r. ⌜ r ≡ min cap (before + arrivals) ⌝ }
 {
-    supply::smaller(10000 * links::cap_of(s, l), before + 10000 * arrivals)
+    supply::smaller(cap, before + arrivals)
 }

@@ -1,10 +1,11 @@
 // What links send. `start` is where the records of turns begin, `byte` has a signal's green links, `x` a queue for each link.
 ghost use mathlib.Core.Path.{_≡_};
-ghost use Prim.Native.Nat.{ℕ, _*_, _-_, _<_, _≤_, min};
+ghost use Prim.Native.Nat.{ℕ, _+_, _*_, _-_, _<_, _≤_, min};
 ghost use lib.Dec.{leb};
+ghost use lib.ListN.{length};
 ghost use Rattle.certificate.specs.Loops.{pick, find};
 ghost use Rattle.certificate.specs.Facts.{Readable};
-ghost use Rattle.certificate.specs.Layout.{linksOf, turnsOf, turnsStart, capOf, fromOf, toOf, pullOf};
+ghost use Rattle.certificate.specs.Layout.{linksOf, turnsOf, turnsStart, turnAt, turnSize, capOf, fromOf, toOf, pullOf};
 ghost use Rattle.network.specs.Roads.{Roads, at, FirstTurns, Spans, WithinCaps, Supplies, limitBy, Mosts, sentBy};
 use crate::conditions;
 use certificate::links;
@@ -52,12 +53,12 @@ pub fn first_turns(s: &[u8], start: usize, turns: usize) -> [usize; 9]
 
 // What the to link of turn t has room for: pull × (cap − queue), in hundredths.
 fn supply_of(s: &[u8], start: usize, t: usize, x: &[usize; 8]) -> usize
-    requires { ⌜ (t < 256) × (start ≤ 100000) × (start ≡ turnsStart (now s)) × (toOf (now s) t < 8) × (at (now x) (toOf (now s) t) ≤ capOf (now s) (toOf (now s) t)) ⌝ }
+    requires { ⌜ (t < 256) × (start ≤ 100000) × (start ≡ turnsStart (now s)) × (toOf (now s) t < 8) × (at (now x) (toOf (now s) t) ≤ capOf (now s) (toOf (now s) t)) × (turnAt (now s) t + turnSize ≤ length (now s)) ⌝ }
     ensures { λ r. ⌜ r ≡ pullOf (now (s .entry)) t * (capOf (now (s .entry)) (toOf (now (s .entry)) t) - at (now (x .entry)) (toOf (now (s .entry)) t)) ⌝ }
 {
-    let to = turns::to_of(s, start, t);
+    let to = turns::to_within(s, start, t);
     let room = links::cap_of(s, to) - x[to];
-    turns::pull_of(s, start, t) * room
+    turns::pull_within(s, start, t) * room
 }
 
 pub fn supplies(s: &[u8], start: usize, turns: usize, links: usize, x: &[usize; 8]) -> [usize; 32]

@@ -1,4 +1,4 @@
-//! Compares the library with the second checker, and with a plain checker made for speed.
+//! Compares the library with the second checker, and with plain checkers made for speed.
 
 pub mod bench;
 pub mod differential;
@@ -6,6 +6,7 @@ pub mod fast;
 pub mod generate;
 pub mod library;
 pub mod numbers;
+pub mod peer;
 pub mod readings;
 pub mod samples;
 pub mod sides;

@@ -1,6 +1,6 @@
 //! Commands that compare the library with other checkers.
 
-use compare::bench::{self, bench, Row};
+use compare::bench::{self, bench, once, Row};
 use compare::differential::{differential, shown, Plan};
 use compare::readings::{readings, Extent};
 use std::process::ExitCode;
@@ -9,6 +9,9 @@ const USAGE: &str = "\
 usage: compare differential --seed S --loads N --queries M
        compare reading --all|--part
        compare bench [--part]
+       compare once CALL CERTIFICATE [N]
+           CALL: screen, judge, load, query-first, query-last, write, list
+           CERTIFICATE: L, typical, largest, worst
 ";
 
 fn main() -> ExitCode {
@@ -23,6 +26,11 @@ fn main() -> ExitCode {
         ["reading", "--part"] => run_readings(Extent::Part),
         ["bench"] => run_bench(bench::Extent::All),
         ["bench", "--part"] => run_bench(bench::Extent::Part),
+        ["once", call, certificate] => run_once(call, certificate, 1),
+        ["once", call, certificate, times] => match times.parse() {
+            Ok(times) => run_once(call, certificate, times),
+            Err(_) => usage(),
+        },
         _ => usage(),
     }
 }
@@ -76,6 +84,19 @@ fn run_bench(extent: bench::Extent) -> ExitCode {
     println!("{}", Row::TITLE);
     match bench(extent, |row| println!("{row}")) {
         Ok(()) => ExitCode::SUCCESS,
+        Err(what) => {
+            eprintln!("{what}");
+            ExitCode::FAILURE
+        }
+    }
+}
+
+fn run_once(call: &str, certificate: &str, times: u32) -> ExitCode {
+    match once(call, certificate, times) {
+        Ok(report) => {
+            println!("{report}");
+            ExitCode::SUCCESS
+        }
         Err(what) => {
             eprintln!("{what}");
             ExitCode::FAILURE

@@ -1,9 +1,8 @@
-//! The plain checker gives what the second checker gives.
+//! The plain checkers, `fast` and `peer`, give what the second checker gives.
 
-use compare::fast;
 use compare::generate::{bytes::bytes_of, certificate, damaged, Size};
 use compare::numbers::Numbers;
-use compare::samples;
+use compare::{fast, peer, samples};
 use second::conditions::read_sound;
 use second::text::encode;
 use second::{listing, Report};
@@ -18,17 +17,24 @@ fn screened(bytes: &[u8]) -> Report {
 fn agrees(bytes: &[u8]) -> Report {
     let (text, report) = listing(bytes);
     assert_eq!(fast::judge(bytes), report);
+    assert_eq!(peer::judge(bytes), report);
     assert_eq!(fast::screen(bytes), screened(bytes));
-    let mut buffer = vec![0; text.len()];
-    assert_eq!(fast::listing(bytes, &mut buffer), Some(text.len()));
-    assert_eq!(buffer, text.as_bytes());
-    assert_eq!(fast::listing(bytes, &mut buffer[..text.len() - 1]), None);
+    lists(fast::listing, bytes, &text);
+    lists(peer::listing, bytes, &text);
     report
+}
+
+fn lists(listing: impl Fn(&[u8], &mut [u8]) -> Option<usize>, bytes: &[u8], text: &str) {
+    let mut buffer = vec![0; text.len()];
+    assert_eq!(listing(bytes, &mut buffer), Some(text.len()));
+    assert_eq!(buffer, text.as_bytes());
+    assert_eq!(listing(bytes, &mut buffer[..text.len() - 1]), None);
 }
 
 #[test]
 fn on_generated_certificates() {
     let (mut accepted, mut ranked) = (0, 0);
+    let mut refused = [0; 16];
     for part in 0..1_500 {
         let mut numbers = Numbers::of(3, part);
         let drawn = certificate(&mut numbers, Size::Small);
@@ -36,11 +42,13 @@ fn on_generated_certificates() {
             accepted += 1;
             ranked += usize::from(drawn.entries.iter().any(|entry| entry.rank > 0));
         }
-        agrees(&damaged(&drawn, &mut numbers));
-        agrees(&damaged(&drawn, &mut numbers));
+        for _ in 0..2 {
+            refused[agrees(&damaged(&drawn, &mut numbers)).number as usize] += 1;
+        }
     }
     assert!(accepted > 1_400, "{accepted}");
     assert!(ranked > 700, "{ranked}");
+    assert!(refused[12..].iter().all(|&of| of > 20), "{refused:?}");
 }
 
 #[test]
@@ -80,10 +88,36 @@ fn on_samples() {
     assert_eq!(read_sound(&typical).unwrap().entries.len(), 625);
     let largest = samples::largest();
     assert_eq!(fast::judge(&largest).number, 0);
+    assert_eq!(peer::judge(&largest), fast::judge(&largest));
     let read = read_sound(&largest).unwrap();
     assert_eq!((read.turns.len(), read.entries.len()), (32, 4_096));
     let worst = samples::worst();
     assert_eq!(fast::judge(&worst), count(4_096 * 8 * 4_096));
+    assert_eq!(peer::judge(&worst), fast::judge(&worst));
+}
+
+/// One rank changed or one entry left out, anywhere: the plain checkers refuse alike.
+#[test]
+fn on_damaged_samples() {
+    let mut numbers = Numbers::of(6, 0);
+    for bytes in [samples::typical(), samples::largest(), samples::worst()] {
+        let read = read_sound(&bytes).unwrap();
+        let mut seen = [0; 16];
+        for _ in 0..20 {
+            let mut copy = read.clone();
+            let at = numbers.below(copy.entries.len());
+            if numbers.chance(50) {
+                copy.entries.remove(at);
+            } else {
+                copy.entries[at].rank ^= numbers.wide(1, 3);
+            }
+            let copy = bytes_of(&copy);
+            let report = peer::judge(&copy);
+            assert_eq!(report, fast::judge(&copy));
+            seen[report.number as usize] += 1;
+        }
+        assert!(seen[0] < 20, "{seen:?}");
+    }
 }
 
 /// The greatest rank is not taken for no entry.

@@ -1,4 +1,4 @@
--- `conformance::main` is safe and ends: the turns are counted down, and the two arrays keep their lengths. Assumes nothing.
+-- `conformance::main` is safe and ends: the turns are counted down, and the arrays keep their lengths. Assumes nothing.
 use mathlib.Core.Path.{_≡_}
 use native.Mathlib.Omega.{arith}
 use borrow.Author.Needs.{needs}
@@ -7,10 +7,10 @@ use Rattle.conformance.proofs.main.Statement.{statement}
 use Rattle.conformance.proofs.main.Tie as tie
 
 abbrev Inv-loop : tie.InvT-loop
-Inv-loop bytes₀ queues₀ state₀ cases₀ turns₀ t8 bytes queues state cases turns = (length bytes ≡ 65536) × (length queues ≡ 64)
+Inv-loop bytes₀ queues₀ lent₀ state₀ cases₀ turns₀ t8 bytes queues lent state cases turns = (length bytes ≡ 65536) × (length queues ≡ 64) × (length lent ≡ 131072)
 
 abbrev μ-loop : tie.MeasureT-loop
-μ-loop bytes₀ queues₀ state₀ cases₀ turns₀ t8 bytes queues state cases turns = turns
+μ-loop bytes₀ queues₀ lent₀ state₀ cases₀ turns₀ t8 bytes queues lent state cases turns = turns
 
 fresh-requires : tie.Need-fresh-requires Inv-loop μ-loop
 fresh-requires c κs = tt
@@ -66,6 +66,9 @@ slice-aggregate-answer c = search needs
 slice-aggregate-answer-2 : tie.Need-slice-aggregate-answer-2 Inv-loop μ-loop
 slice-aggregate-answer-2 c = search needs
 
+slice-aggregate-answer-3 : tie.Need-slice-aggregate-answer-3 Inv-loop μ-loop
+slice-aggregate-answer-3 c = search needs
+
 answer-requires : tie.Need-answer-requires Inv-loop μ-loop
 answer-requires c κs = tt
 
@@ -102,6 +105,7 @@ main-spec =
     returns-2
     slice-aggregate-answer
     slice-aggregate-answer-2
+    slice-aggregate-answer-3
     answer-requires
     loop-less-2
     loop-again-2

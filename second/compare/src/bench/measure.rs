@@ -1,6 +1,7 @@
-//! Medians of repeated runs of two functions in turn.
+//! Medians of repeated runs of functions in turn, in processor time.
 
-use std::time::{Duration, Instant};
+use super::clock::spent;
+use std::time::Duration;
 
 /// A sample lasts at least this long.
 const SAMPLE: Duration = Duration::from_micros(200);
@@ -12,23 +13,24 @@ const MOST: usize = 201;
 const LONG: Duration = Duration::from_secs(5);
 
 /// Nanoseconds of one run of each function: medians of samples that are taken in turn.
-pub fn medians(mut first: impl FnMut(), mut second: impl FnMut()) -> (f64, f64) {
-    let (first_runs, first_once) = runs_of_sample(&mut first);
-    let (second_runs, second_once) = runs_of_sample(&mut second);
-    if first_once.max(second_once) > LONG.as_nanos() as f64 {
-        return (first_once, second_once);
+pub fn medians(functions: &mut [&mut dyn FnMut()]) -> Vec<f64> {
+    let first: Vec<(u32, f64)> = functions.iter_mut().map(runs_of_sample).collect();
+    if first.iter().any(|&(_, once)| once > LONG.as_nanos() as f64) {
+        return first.into_iter().map(|(_, once)| once).collect();
     }
-    let (mut of_first, mut of_second) = (Vec::new(), Vec::new());
-    let started = Instant::now();
-    while of_first.len() < LEAST || (started.elapsed() < WHOLE && of_first.len() < MOST) {
-        of_first.push(sample(&mut first, first_runs));
-        of_second.push(sample(&mut second, second_runs));
+    let mut samples = vec![Vec::new(); functions.len()];
+    let started = spent();
+    while samples[0].len() < LEAST || (spent() - started < WHOLE && samples[0].len() < MOST) {
+        for ((samples, function), &(runs, _)) in samples.iter_mut().zip(&mut *functions).zip(&first)
+        {
+            samples.push(sample(function, runs));
+        }
     }
-    (median(of_first), median(of_second))
+    samples.into_iter().map(median).collect()
 }
 
 /// How many runs make a sample, and the time of one.
-fn runs_of_sample(run: &mut impl FnMut()) -> (u32, f64) {
+fn runs_of_sample(run: &mut &mut dyn FnMut()) -> (u32, f64) {
     let mut runs = 1;
     loop {
         let once = sample(run, runs);
@@ -40,12 +42,12 @@ fn runs_of_sample(run: &mut impl FnMut()) -> (u32, f64) {
 }
 
 /// Nanoseconds of a run in one sample.
-fn sample(run: &mut impl FnMut(), runs: u32) -> f64 {
-    let started = Instant::now();
+fn sample(run: &mut &mut dyn FnMut(), runs: u32) -> f64 {
+    let started = spent();
     for _ in 0..runs {
         run();
     }
-    started.elapsed().as_nanos() as f64 / f64::from(runs)
+    (spent() - started).as_nanos() as f64 / f64::from(runs)
 }
 
 fn median(mut samples: Vec<f64>) -> f64 {

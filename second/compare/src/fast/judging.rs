@@ -3,26 +3,30 @@
 use super::image::Flows;
 use super::lookup::{Failing, Lookup, Ranks};
 use super::network::{Entry, Network, MOST};
+use super::place::Place;
 use super::ranges::{Range, Steps};
 use super::reading::{read, Read};
 use second::Report;
 
 /// Judges any bytes.
 pub fn judge(bytes: &[u8]) -> Report {
-    match read_ranked(bytes) {
+    match read_ranked(bytes, &mut Network::default()) {
         Ok((read, ranks)) => judge_entries(&read, &ranks),
         Err(refusal) => refusal,
     }
 }
 
 /// Reads, and puts the ranks into their table on the way.
-pub fn read_ranked(bytes: &[u8]) -> Result<(Read<'_>, Ranks), Report> {
-    read(bytes, Ranks::of, Ranks::put)
+pub fn read_ranked<'a>(
+    bytes: &'a [u8],
+    network: &'a mut Network,
+) -> Result<(Read<'a>, Ranks), Report> {
+    read(bytes, network, Ranks::of, Ranks::put)
 }
 
 /// Judges a certificate that has passed every test before 12.
 pub fn judge_entries(read: &Read, ranks: &Ranks) -> Report {
-    let network = &*read.network;
+    let network = read.network;
     let mut judging = Judging {
         network,
         flows: Flows::of(network),
@@ -42,53 +46,6 @@ pub fn judge_entries(read: &Read, ranks: &Ranks) -> Report {
     Report::SUCCESS.counting(judging.count)
 }
 
-/// A cell, its intervals, and how many intervals of each link keep to safe and to goal.
-struct Place {
-    cell: usize,
-    intervals: [usize; MOST],
-    safe: [usize; MOST],
-    goal: [usize; MOST],
-}
-
-impl Place {
-    fn first(network: &Network) -> Place {
-        let mut place = Place {
-            cell: 0,
-            intervals: [0; MOST],
-            safe: [1; MOST],
-            goal: [1; MOST],
-        };
-        for (number, link) in network.link[..network.links].iter().enumerate() {
-            let upper = &network.edges[number][1..=network.counts[number]];
-            let within = |limit| upper.iter().filter(|&&edge| edge <= limit).count();
-            place.safe[number] = within(link.safe);
-            place.goal[number] = within(link.goal);
-        }
-        place
-    }
-
-    #[inline]
-    fn pass_to(&mut self, cell: usize, network: &Network) {
-        if cell == self.cell + 1 {
-            let mut link = network.links - 1;
-            while self.intervals[link] + 1 == network.counts[link] && link > 0 {
-                self.intervals[link] = 0;
-                link -= 1;
-            }
-            self.intervals[link] += 1;
-        } else if cell != self.cell {
-            self.intervals = network.intervals(cell);
-        }
-        self.cell = cell;
-    }
-
-    #[inline]
-    fn within(&self, counts: &[usize; MOST]) -> bool {
-        let links = self.intervals.iter().zip(counts);
-        links.fold(true, |all, (interval, count)| all & (interval < count))
-    }
-}
-
 struct Judging<'a> {
     network: &'a Network,
     flows: Flows,
@@ -105,10 +62,10 @@ impl Judging<'_> {
     #[inline]
     fn entry(&mut self, number: usize, entry: Entry) -> Result<(), Report> {
         self.place.pass_to(entry.cell.into(), self.network);
-        if !self.place.within(&self.place.safe) {
+        if !self.place.is_safe() {
             return Err(Report::at(12, number));
         }
-        if (entry.rank == 0) != self.place.within(&self.place.goal) {
+        if (entry.rank == 0) != self.place.is_goal() {
             return Err(Report::at(13, number));
         }
         let green = self.network.green[usize::from(entry.signal) & 15];

@@ -1,33 +1,28 @@
 //! The listing, put at the start of a buffer.
 
-use super::judging::{judge_entries, read_ranked};
 use super::network::{Entry, Network};
+use super::reading::Read;
 use second::Report;
 
-/// Puts the listing of the bytes into the buffer and tells its length; none if the buffer is too short.
-pub fn listing(bytes: &[u8], buffer: &mut [u8]) -> Option<usize> {
-    let mut text = Text {
-        room: buffer,
-        length: 0,
-    };
-    let read = match read_ranked(bytes) {
-        Ok((read, ranks)) => match judge_entries(&read, &ranks) {
-            report if report.number == 0 => Ok((read, report)),
-            refusal => Err(refusal),
-        },
-        Err(refusal) => Err(refusal),
-    };
-    match read {
-        Ok((read, report)) => {
-            text.counts(&read.network)?;
-            for record in read.records {
-                text.entry(Entry::of(record))?;
-            }
-            text.words(b"accepted ")?;
-            text.number(report.count, b'\n')?;
-        }
-        Err(refusal) => text.refused(refusal)?,
+/// Puts the listing of a certificate that has got this verdict; tells its length, none if the buffer is too short.
+pub fn put(read: &Read, verdict: Report, buffer: &mut [u8]) -> Option<usize> {
+    if verdict.number != 0 {
+        return put_refusal(verdict, buffer);
     }
+    let mut text = Text::at_start(buffer);
+    text.counts(read.network)?;
+    for record in read.records {
+        text.entry(Entry::of(record))?;
+    }
+    text.words(b"accepted ")?;
+    text.number(verdict.count, b'\n')?;
+    Some(text.length)
+}
+
+/// The same for a refusal.
+pub fn put_refusal(refusal: Report, buffer: &mut [u8]) -> Option<usize> {
+    let mut text = Text::at_start(buffer);
+    text.refused(refusal)?;
     Some(text.length)
 }
 
@@ -38,6 +33,10 @@ struct Text<'a> {
 }
 
 impl Text<'_> {
+    fn at_start(room: &mut [u8]) -> Text<'_> {
+        Text { room, length: 0 }
+    }
+
     #[inline]
     fn words(&mut self, words: &[u8]) -> Option<()> {
         let end = self.length + words.len();

@@ -9,41 +9,41 @@ const ENTRY: usize = 9;
 
 /// A certificate that has passed every test before 12.
 pub struct Read<'a> {
-    pub network: Box<Network>,
+    pub network: &'a Network,
     /// The EN records.
     pub records: &'a [[u8; ENTRY]],
 }
 
-/// Reads all records and tests both conditions. What `start` makes of the network is shown every entry by `put`.
-pub fn read<T>(
-    bytes: &[u8],
+/// Reads all records into a network of zeros and tests both conditions. What `start` makes of the network is shown every entry by `put`.
+pub fn read<'a, T>(
+    bytes: &'a [u8],
+    network: &'a mut Network,
     start: impl FnOnce(&Network) -> T,
     mut put: impl FnMut(&mut T, Entry),
-) -> Result<(Read<'_>, T), Report> {
-    let mut network = Box::new(Network::default());
-    let mut at = header(bytes, &mut network)?;
+) -> Result<(Read<'a>, T), Report> {
+    let mut at = header(bytes, network)?;
     for link in 0..network.links {
         network.link[link] = link_at(bytes, at)?;
         at += 12;
     }
-    turns(bytes, &mut at, &mut network)?;
+    turns(bytes, &mut at, network)?;
     for signal in 0..network.signals {
         let green = record::<3>(bytes, at, b"SG")?[2];
         must(6, at, u32::from(green) < 1 << network.links)?;
         network.green[signal] = green;
         at += 3;
     }
-    grids(bytes, &mut at, &mut network)?;
-    arrivals(bytes, &mut at, &mut network)?;
-    let mut made = start(&network);
-    let records = entries(bytes, at, &network, |entry| put(&mut made, entry))?;
+    grids(bytes, &mut at, network)?;
+    arrivals(bytes, &mut at, network)?;
+    let mut made = start(network);
+    let records = entries(bytes, at, network, |entry| put(&mut made, entry))?;
     at += ENTRY * network.entries;
     record::<2>(bytes, at, b"ZZ")?;
     if bytes.len() > at + 2 {
         return Err(Report::at(2, at + 2));
     }
-    pull_sums(&network)?;
-    flows(&network)?;
+    pull_sums(network)?;
+    flows(network)?;
     Ok((Read { network, records }, made))
 }
 

@@ -36,10 +36,11 @@ pub fn find_policy(
         rank: 0,
     }];
     let bytes = bytes_of(certificate);
-    let (read, ()) = read(&bytes, |_| (), |_, _| ()).ok()?;
+    let mut network = Network::default();
+    let (read, ()) = read(&bytes, &mut network, |_| (), |_, _| ()).ok()?;
     let most = (MOST_PAIRS / read.network.cells).clamp(1, 8);
     let modes = modes.min(most);
-    let game = game(&read.network, numbers, modes);
+    let game = game(read.network, numbers, modes);
     let steps = game.solve();
     if steps.iter().all(Option::is_none) {
         return None;

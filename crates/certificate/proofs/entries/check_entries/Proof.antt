@@ -1,35 +1,38 @@
 -- `certificate::entries::check_entries` meets its contract. Assumes nothing.
 use Prim.Native.Nat.{_-_}
-use mathlib.Core.Path.{_≡_}
+use mathlib.Core.Path.{_≡_, refl, _∙_}
 use borrow.Author.Needs.{needs}
 use Rattle.certificate.specs.Checks.{firstFrom}
 use Rattle.certificate.specs.Records.{entryFault}
-use Rattle.certificate.specs.Carried.{PairBefore}
-use Rattle.certificate.proofs.Cases.{go-on, stop, end}
-use Rattle.certificate.proofs.EntryPairs.{pair-none, pair-next}
+use Rattle.certificate.specs.Carried.{KeyBefore}
+use Rattle.certificate.proofs.Cases.{go-on, end}
+use Rattle.certificate.proofs.EntryPairs.{key-none}
 use Rattle.certificate.proofs.entries.check_entries.Statement.{statement}
 use Rattle.certificate.proofs.entries.check_entries.Tie as tie
 
 abbrev Inv-loop : tie.InvT-loop
-Inv-loop s start counts entries cell₀ mode₀ e₀ cell mode e = (firstFrom entries (entryFault s) e ≡ firstFrom entries (entryFault s) 0) × PairBefore s e cell mode
+Inv-loop s start counts entries least₀ e₀ least e = (firstFrom entries (entryFault s) e ≡ firstFrom entries (entryFault s) 0) × KeyBefore s e least
 
 abbrev μ-loop : tie.MeasureT-loop
-μ-loop s start counts entries cell₀ mode₀ e₀ cell mode e = entries - e
+μ-loop s start counts entries least₀ e₀ least e = entries - e
 
 loop-holds : tie.Need-loop-holds Inv-loop μ-loop
-loop-holds c = (search needs, pair-none _)
+loop-holds c = (search needs, key-none _)
 
-check-entry-requires : tie.Need-check-entry-requires Inv-loop μ-loop
-check-entry-requires c κs = search needs
+mul-quick : tie.Need-mul-quick Inv-loop μ-loop
+mul-quick c = search needs
+
+add-quick : tie.Need-add-quick Inv-loop μ-loop
+add-quick c = search needs
+
+quick-requires : tie.Need-quick-requires Inv-loop μ-loop
+quick-requires c κs = search needs
+
+check-from-requires : tie.Need-check-from-requires Inv-loop μ-loop
+check-from-requires c κs = search needs
 
 returns : tie.Need-returns Inv-loop μ-loop
-returns c = search stop
-
-cell-of-requires : tie.Need-cell-of-requires Inv-loop μ-loop
-cell-of-requires c κs = search needs
-
-mode-of-requires : tie.Need-mode-of-requires Inv-loop μ-loop
-mode-of-requires c κs = search needs
+returns c = c .check-from .ensures ∙ c .before .before .before .before .loop .inv .0
 
 add-e : tie.Need-add-e Inv-loop μ-loop
 add-e c = search needs
@@ -39,10 +42,9 @@ loop-less c = search needs
 
 loop-again : tie.Need-loop-again Inv-loop μ-loop
 loop-again c =
-    let turn = c .before .before .before .before in (
-      go-on _ _ _ _ _ (turn .before .loop-test .taken) (turn .check-entry .ensures) (c .before .before .if1 .left) (turn .before .before .loop .inv .0),
-      pair-next _ _ (c .before .cell-of .ensures .0) (c .mode-of .ensures .0),
-    )
+    let yes′ = c .before .quick .ensures (c .if1 .left) in
+    let turn = c .before .before in
+    (go-on _ _ _ _ _ (turn .loop-test .taken) (yes′ .0) refl (turn .before .loop .inv .0), yes′ .1)
 
 accept-requires : tie.Need-accept-requires Inv-loop μ-loop
 accept-requires c κs = search needs
@@ -57,10 +59,11 @@ check-entries-spec =
     Inv-loop
     μ-loop
     loop-holds
-    check-entry-requires
+    mul-quick
+    add-quick
+    quick-requires
+    check-from-requires
     returns
-    cell-of-requires
-    mode-of-requires
     add-e
     loop-less
     loop-again

@@ -1,29 +1,34 @@
 -- `certificate::entries::check_entry` meets its contract. Assumes nothing.
-use Rattle.certificate.specs.Records.{entryFault}
+use Rattle.certificate.proofs.EntryPairs.{entry-unopened, entry-whole, entry-result}
 use borrow.Author.Needs.{needs}
 use Rattle.certificate.proofs.entries.check_entry.Statement.{statement}
 use Rattle.certificate.proofs.entries.check_entry.Tie as tie
 
-mul-o : tie.Need-mul-o
-mul-o c = search needs
-
-add-o : tie.Need-add-o
-add-o c = search needs
-
 check-opened-requires : tie.Need-check-opened-requires
 check-opened-requires c κs = search needs
 
+returns : tie.Need-returns
+returns c = search entry-unopened
+
+key-at-requires : tie.Need-key-at-requires
+key-at-requires c κs = (search needs, search needs, search entry-whole)
+
 entry-ok-requires : tie.Need-entry-ok-requires
-entry-ok-requires c κs = search needs
+entry-ok-requires c κs = (search needs, search needs, search entry-whole, search needs, search needs, search needs, search needs)
 
 record-result-requires : tie.Need-record-result-requires
 record-result-requires c κs = search needs
 
-returns : tie.Need-returns
-unfolding entryFault
-returns c = cc
+returns-2 : tie.Need-returns-2
+returns-2 c = search entry-result
 
 pub check-entry-spec : {M : Type 1} → statement M
 check-entry-spec =
     tie.close
-    (tie.spec mul-o add-o check-opened-requires entry-ok-requires record-result-requires returns)
+    (tie.spec
+    check-opened-requires
+    returns
+    key-at-requires
+    entry-ok-requires
+    record-result-requires
+    returns-2)

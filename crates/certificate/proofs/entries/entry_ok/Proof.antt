@@ -1,37 +1,40 @@
 -- `certificate::entries::entry_ok` meets its contract. Assumes nothing.
 use Rattle.certificate.specs.Octets.{_also_}
 use Rattle.certificate.specs.Records.{entryOk}
-use Rattle.certificate.proofs.EntryPairs.{entry-ascends-is}
+use Rattle.certificate.proofs.EntryPairs.{key-ascends, key-mode, key-cell}
 use borrow.Author.Needs.{needs}
 use Rattle.certificate.proofs.entries.entry_ok.Statement.{statement}
 use Rattle.certificate.proofs.entries.entry_ok.Tie as tie
 
-cell-of-requires : tie.Need-cell-of-requires
-cell-of-requires c κs = search needs
+mul-result : tie.Need-mul-result
+mul-result c = search needs
 
-mode-of-requires : tie.Need-mode-of-requires
-mode-of-requires c κs = search needs
+add-byte-within : tie.Need-add-byte-within
+add-byte-within c = search needs
 
-signal-of-requires : tie.Need-signal-of-requires
-signal-of-requires c κs = search needs
+byte-within-requires : tie.Need-byte-within-requires
+byte-within-requires c κs = search needs
 
-next-mode-of-requires : tie.Need-next-mode-of-requires
-next-mode-of-requires c κs = search needs
+add-byte-within-2 : tie.Need-add-byte-within-2
+add-byte-within-2 c = search needs
 
-pair-below-requires : tie.Need-pair-below-requires
-pair-below-requires c κs = search needs
+byte-within-requires-2 : tie.Need-byte-within-requires-2
+byte-within-requires-2 c κs = search needs
 
 returns : tie.Need-returns
 unfolding entryOk _also_
-returns c = cc (entry-ascends-is _ _ (c .before .before .before .before .before .before .before .before .before .before .pre .4))
+returns c =
+    let start = c .before .before .before .before .before .before .before in
+    let key = start .pre .5 in
+    cc (key-ascends _ _ key (start .pre .6), key-mode _ _ key, key-cell _ _ (start .args .counts .cells) key)
 
 pub entry-ok-spec : {M : Type 1} → statement M
 entry-ok-spec =
     tie.close
     (tie.spec
-    cell-of-requires
-    mode-of-requires
-    signal-of-requires
-    next-mode-of-requires
-    pair-below-requires
+    mul-result
+    add-byte-within
+    byte-within-requires
+    add-byte-within-2
+    byte-within-requires-2
     returns)

@@ -25,8 +25,8 @@ returns c = search cuts-absent
 cap-of-requires : tie.Need-cap-of-requires
 cap-of-requires c κs = search needs
 
-sub-check-cuts : tie.Need-sub-check-cuts
-sub-check-cuts c = search needs
+one-less-requires : tie.Need-one-less-requires
+one-less-requires c κs = search needs
 
 check-cuts-requires : tie.Need-check-cuts-requires
 check-cuts-requires c κs = search needs
@@ -45,6 +45,6 @@ check-cuts-of-spec =
     refuse-requires
     returns
     cap-of-requires
-    sub-check-cuts
+    one-less-requires
     check-cuts-requires
     returns-2)

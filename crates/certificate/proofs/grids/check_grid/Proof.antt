@@ -1,5 +1,5 @@
 -- `certificate::grids::check_grid` meets its contract. Assumes nothing.
-use Rattle.certificate.proofs.Grid.{grid-unopened, grid-miscounted, grid-counted, count-least}
+use Rattle.certificate.proofs.Grid.{grid-unopened, grid-counted}
 use borrow.Author.Needs.{needs}
 use Rattle.certificate.proofs.grids.check_grid.Statement.{statement}
 use Rattle.certificate.proofs.grids.check_grid.Tie as tie
@@ -13,17 +13,17 @@ returns c = search grid-unopened
 count-ok-requires : tie.Need-count-ok-requires
 count-ok-requires c κs = search needs
 
-refuse-requires : tie.Need-refuse-requires
-refuse-requires c κs = search needs
-
-returns-2 : tie.Need-returns-2
-returns-2 c = search grid-miscounted depth 6
+record-result-requires : tie.Need-record-result-requires
+record-result-requires c κs = search needs
 
 check-cuts-of-requires : tie.Need-check-cuts-of-requires
-check-cuts-of-requires c κs = (search needs, search needs, search needs, search count-least)
+check-cuts-of-requires c κs = search needs
 
-returns-3 : tie.Need-returns-3
-returns-3 c = search grid-counted depth 6
+or-else-requires : tie.Need-or-else-requires
+or-else-requires c κs = search needs
+
+returns-2 : tie.Need-returns-2
+returns-2 c = search grid-counted depth 6
 
 pub check-grid-spec : {M : Type 1} → statement M
 check-grid-spec =
@@ -32,7 +32,7 @@ check-grid-spec =
     check-opened-requires
     returns
     count-ok-requires
-    refuse-requires
-    returns-2
+    record-result-requires
     check-cuts-of-requires
-    returns-3)
+    or-else-requires
+    returns-2)

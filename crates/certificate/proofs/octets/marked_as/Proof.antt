@@ -4,18 +4,19 @@ use borrow.Author.Needs.{needs}
 use Rattle.certificate.proofs.octets.marked_as.Statement.{statement}
 use Rattle.certificate.proofs.octets.marked_as.Tie as tie
 
-byte-at-requires : tie.Need-byte-at-requires
-byte-at-requires c κs = search needs
+byte-within-requires : tie.Need-byte-within-requires
+byte-within-requires c κs = search needs
 
-add-byte-at : tie.Need-add-byte-at
-add-byte-at c = search needs
+add-byte-within : tie.Need-add-byte-within
+add-byte-within c = search needs
 
-byte-at-requires-2 : tie.Need-byte-at-requires-2
-byte-at-requires-2 c κs = search needs
+byte-within-requires-2 : tie.Need-byte-within-requires-2
+byte-within-requires-2 c κs = search needs
 
 returns : tie.Need-returns
 unfolding marked
 returns c = cc
 
 pub marked-as-spec : {M : Type 1} → statement M
-marked-as-spec = tie.close (tie.spec byte-at-requires add-byte-at byte-at-requires-2 returns)
+marked-as-spec =
+    tie.close (tie.spec byte-within-requires add-byte-within byte-within-requires-2 returns)

@@ -2,6 +2,7 @@
 use mathlib.Core.Path.{_≡_}
 use mathlib.Core.Bool.{true}
 use Rattle.certificate.proofs.Cases.{not-yes, not-no}
+use Rattle.judging.proofs.Finding.{cells-ascend}
 use Rattle.controller.specs.Query.{isProper}
 use Rattle.controller.proofs.Answers.{finds-improper, as-many, scale-fits, queues-fit, finds-none, finds}
 use borrow.Author.Needs.{needs}
@@ -27,7 +28,10 @@ cell-at-requires c κs =
     (a .pre .1, laid .grid-is, laid .links-are, as-many s (a .args .mode) queues _ ok (laid .links-are), scale-fits s (a .args .mode) queues _ ok, queues-fit s (a .args .mode) queues _ ok)
 
 find-entry-requires : tie.Need-find-entry-requires
-find-entry-requires c κs = search needs
+find-entry-requires c κs =
+    let a = c .before .before .before .before .before .before .before in
+    let ascend = cells-ascend (a .args .s .now) (a .pre .1) in
+    search needs
 
 not-found-requires-2 : tie.Need-not-found-requires-2
 not-found-requires-2 c κs = search needs

@@ -1,70 +1,76 @@
 -- `grid::seek::run_end` meets its contract. Assumes nothing.
-use Prim.Native.Nat.{suc, _+_, _-_, _≤_, _<_}
-use mathlib.Core.Path.{_≡_, refl}
+use Prim.Native.Nat.{_+_, _*_, _-_, _≤_}
+use mathlib.Core.Path.{_≡_, _∙_}
 use native.Mathlib.Omega.{arith}
 use lib.ListN.{getD}
-use Rattle.certificate.specs.Layout.{linksOf}
 use Rattle.certificate.proofs.Size.{cells-in-range}
-use Rattle.grid.specs.Tables.{RunTo}
-use Rattle.grid.proofs.Jumps.{at-d, run-to}
+use Rattle.grid.specs.Tables.{RunTo, runEnd}
+use Rattle.grid.proofs.Runs.{range-least, run-to}
 use borrow.Author.Needs.{needs}
 use Rattle.grid.proofs.seek.run_end.Statement.{statement}
 use Rattle.grid.proofs.seek.run_end.Tie as tie
 
--- the run ends there
-run : (c : tie.After-digit)
-    → (c .digit .result ≤ getD (c .before .before .before .args .last .now) (c .before .before .before .args .links - 1) 0)
-    × RunTo (c .before .before .before .args .s .now) (c .before .before .before .args .first .now) (c .before .before .before .args .last .now) (c .before .before .before .args .d)
-    (c .before .before .before .args .d + (getD (c .before .before .before .args .last .now) (c .before .before .before .args .links - 1) 0 - c .digit .result) + 1)
-run c =
-    let a = c .before .before .before in
-    let s = a .args .s .now in
-    let l = a .args .links - 1 in
-    let least = a .pre .0 .header .links-least in
-    let lt : l < linksOf s = omega arith in
-    let final : suc l ≡ linksOf s = omega arith in
-    rw (c .digit .ensures) (
-      at-d s (a .pre .0) (a .args .d) l (a .pre .4) lt _ _ (a .pre .3) final (a .pre .5) .1,
-      run-to s (a .pre .0) (a .args .d) l (a .pre .4) lt _ _ (a .pre .3) final (a .pre .5) _ refl,
-    )
+-- the range of the run link is not empty, and the run ends where the contract says
+least : (a : tie.Start) → getD (a .args .first .now) (a .args .k) 0 ≤ getD (a .args .last .now) (a .args .k) 0
+least a = range-least (a .args .s .now) (a .pre .0 .readable) _ _ (a .pre .1) (a .args .k) (a .args .d) (a .pre .2) (a .pre .3)
 
-sub-l : tie.Need-sub-l
-sub-l c = search needs
+run : (a : tie.Start) → RunTo (a .args .s .now) (a .args .first .now) (a .args .last .now) (a .args .d) (runEnd (a .args .s .now) (a .args .first .now) (a .args .last .now) (a .args .k) (a .args .d))
+run a = run-to (a .args .s .now) (a .pre .0 .readable) _ _ (a .pre .1) (a .args .k) (a .args .d) (a .pre .2) (a .pre .3)
 
-mul-result : tie.Need-mul-result
-mul-result c = search needs
+-- as the code computes it, by the table of weights
+end : (a : tie.Start) → a .args .d + (getD (a .args .last .now) (a .args .k) 0 + 1 - getD (a .args .first .now) (a .args .k) 0) * getD (a .args .weights .now) (a .args .k) 0
+    ≡ runEnd (a .args .s .now) (a .args .first .now) (a .args .last .now) (a .args .k) (a .args .d)
+end a = rw (a .pre .0 .weight (a .args .k) (a .pre .2 .exists))
 
-element-copy-out-result : tie.Need-element-copy-out-result
-element-copy-out-result c = search needs
+mul-ahead : tie.Need-mul-ahead
+mul-ahead c = search needs
 
-digit-requires : tie.Need-digit-requires
-digit-requires c κs = search needs
+element-copy-out-ahead : tie.Need-element-copy-out-ahead
+element-copy-out-ahead c = search needs
 
-sub-result : tie.Need-sub-result
-sub-result c = run c .0
+add-ahead : tie.Need-add-ahead
+add-ahead c =
+    let a = c .before .before in
+    let k = a .args .k in
+    omega (arith, a .pre .1 .last-most k (a .pre .2 .exists), a .pre .0 .readable .grid k (a .pre .2 .exists) .count-most)
 
-add-result : tie.Need-add-result
-add-result c =
-    let a = c .before .before .before in
-    omega (arith, run c .1 .most, cells-in-range (a .args .s .now) (a .pre .0))
+mul-ahead-2 : tie.Need-mul-ahead-2
+mul-ahead-2 c = search needs
 
-add-result-2 : tie.Need-add-result-2
-add-result-2 c =
-    let a = c .before .before .before in
-    omega (arith, run c .1 .most, cells-in-range (a .args .s .now) (a .pre .0))
+element-copy-out-ahead-2 : tie.Need-element-copy-out-ahead-2
+element-copy-out-ahead-2 c = search needs
+
+sub-ahead : tie.Need-sub-ahead
+sub-ahead c = omega (arith, least (c .before .before .before))
+
+mul-ahead-3 : tie.Need-mul-ahead-3
+mul-ahead-3 c = search needs
+
+element-copy-out-ahead-3 : tie.Need-element-copy-out-ahead-3
+element-copy-out-ahead-3 c = search needs
+
+ahead-requires : tie.Need-ahead-requires
+ahead-requires c κs =
+    let a = c .before .before .before .before in
+    omega (arith, end a, run a .most, cells-in-range (a .args .s .now) (a .pre .0 .readable))
 
 returns : tie.Need-returns
-returns c = run c .1
+returns c =
+    let a = c .before .before .before .before .before in
+    let e = c .ahead .ensures ∙ end a in
+    (e, rw e (run a))
 
 pub run-end-spec : {M : Type 1} → statement M
 run-end-spec =
     tie.close
     (tie.spec
-    sub-l
-    mul-result
-    element-copy-out-result
-    digit-requires
-    sub-result
-    add-result
-    add-result-2
+    mul-ahead
+    element-copy-out-ahead
+    add-ahead
+    mul-ahead-2
+    element-copy-out-ahead-2
+    sub-ahead
+    mul-ahead-3
+    element-copy-out-ahead-3
+    ahead-requires
     returns)

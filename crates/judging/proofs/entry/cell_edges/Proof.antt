@@ -1,3 +1,4 @@
+-- `judging::entry::cell_edges` meets its contract. Assumes nothing.
 use Prim.Native.Nat.{_-_, _≤_, _<_}
 use mathlib.Core.Path.{refl, ap, _∙_}
 use native.Mathlib.Omega.{arith}
@@ -9,9 +10,6 @@ use Rattle.grid.specs.Cells.{lowerOf, upperOf}
 use Rattle.grid.proofs.Filling.{Filled, filled-more}
 use Rattle.judging.proofs.entry.cell_edges.Statement.{statement}
 use Rattle.judging.proofs.entry.cell_edges.Tie as tie
-use Rattle.judging.proofs.entry.cell_edges.Reads as reads
-use Rattle.judging.proofs.entry.cell_edges.Lts as lts
-use Rattle.judging.proofs.entry.interval_in.Reads as interval-in-reads
 
 abbrev Inv-loop : tie.InvT-loop
 Inv-loop s digits edges links cell lower₀ upper₀ l₀ lower upper l = Filled 8 l (lowerOf s cell) lower × Filled 8 l (upperOf s cell) upper × (l ≤ links) × (links ≤ 8)
@@ -19,77 +17,59 @@ Inv-loop s digits edges links cell lower₀ upper₀ l₀ lower upper l = Filled
 abbrev μ-loop : tie.MeasureT-loop
 μ-loop s digits edges links cell lower₀ upper₀ l₀ lower upper l = links - l
 
--- src/entry.rt:49:5
 loop-holds : tie.Need-loop-holds Inv-loop μ-loop
 loop-holds c = ((refl, below-none _), (refl, below-none _), omega arith, omega (arith, c .before .pre .3, c .before .pre .0 .header .links-most))
 
--- src/entry.rt:50:13
 interval-in-requires : tie.Need-interval-in-requires Inv-loop μ-loop
 interval-in-requires c κs = let w = c .before in
     let a = w .before .before in
     (a .pre .0, a .pre .1, a .pre .4, omega (arith, a .pre .3))
 
--- src/entry.rt:51:26
 mul-lower : tie.Need-mul-lower Inv-loop μ-loop
 mul-lower c = omega arith
 
--- src/entry.rt:51:26
 add-lower : tie.Need-add-lower Inv-loop μ-loop
 add-lower c = omega arith
 
--- src/entry.rt:51:20
 mul-lower-2 : tie.Need-mul-lower-2 Inv-loop μ-loop
 mul-lower-2 c = omega arith
 
--- src/entry.rt:51:20
 element-copy-out-lower : tie.Need-element-copy-out-lower Inv-loop μ-loop
 element-copy-out-lower c = omega arith
 
--- src/entry.rt:51:9
 mul-lower-3 : tie.Need-mul-lower-3 Inv-loop μ-loop
 mul-lower-3 c = omega arith
 
--- src/entry.rt:51:9
 array-write-lower : tie.Need-array-write-lower Inv-loop μ-loop
 array-write-lower c = omega arith
 
--- src/entry.rt:52:26
 mul-upper : tie.Need-mul-upper Inv-loop μ-loop
 mul-upper c = omega arith
 
--- src/entry.rt:52:26
 add-upper : tie.Need-add-upper Inv-loop μ-loop
 add-upper c = omega arith
 
--- src/entry.rt:52:26
 add-upper-2 : tie.Need-add-upper-2 Inv-loop μ-loop
 add-upper-2 c = omega arith
 
--- src/entry.rt:52:20
 mul-upper-2 : tie.Need-mul-upper-2 Inv-loop μ-loop
 mul-upper-2 c = omega arith
 
--- src/entry.rt:52:20
 element-copy-out-upper : tie.Need-element-copy-out-upper Inv-loop μ-loop
 element-copy-out-upper c = omega arith
 
--- src/entry.rt:52:9
 mul-upper-3 : tie.Need-mul-upper-3 Inv-loop μ-loop
 mul-upper-3 c = omega arith
 
--- src/entry.rt:52:9
 array-write-upper : tie.Need-array-write-upper Inv-loop μ-loop
 array-write-upper c = omega arith
 
--- src/entry.rt:49:9
 add-l : tie.Need-add-l Inv-loop μ-loop
 add-l c = omega arith
 
--- src/entry.rt:49:5
 loop-less : tie.Need-loop-less Inv-loop μ-loop
 loop-less c = omega arith
 
--- src/entry.rt:49:5
 loop-again : tie.Need-loop-again Inv-loop μ-loop
 loop-again c = let w = c .before .before .before .before in
     let a = w .before .before in
@@ -103,7 +83,6 @@ loop-again c = let w = c .before .before .before .before in
       omega arith,
     )
 
--- src/entry.rt:37:1
 returns : tie.Need-returns Inv-loop μ-loop
 returns c = let w = c .before in
     let a = w .before .before in

@@ -1,29 +1,21 @@
+-- `judging::entry::entry_ends` meets its contract. Assumes nothing.
 use Rattle.judging.proofs.Ranged.{ends-are, edges-within, layout-roads}
 use borrow.Author.Needs.{needs}
 use Rattle.judging.proofs.entry.entry_ends.Statement.{statement}
 use Rattle.judging.proofs.entry.entry_ends.Tie as tie
-use Rattle.judging.proofs.entry.entry_ends.Reads as reads
-use Rattle.judging.proofs.entry.entry_ends.Lts as lts
-use Rattle.certificate.proofs.entries.signal_of.Reads as signal-of-reads
-use Rattle.certificate.proofs.signals.green_byte_of.Reads as green-byte-of-reads
-use Rattle.network.proofs.ends.ends_of.Reads as ends-of-reads
 
--- src/entry.rt:60:9
 signal-of-requires : tie.Need-signal-of-requires
 signal-of-requires c κs = search needs
 
--- src/entry.rt:61:9
 green-byte-of-requires : tie.Need-green-byte-of-requires
 green-byte-of-requires c κs = search needs
 
--- src/entry.rt:62:5
 ends-of-requires : tie.Need-ends-of-requires
 ends-of-requires c κs = let a = c .before .before .before in
     let R = a .pre .0 .readable in
     let W = edges-within _ R _ _ _ (a .pre .4) in
     (layout-roads _ _ R (a .pre .1), a .pre .2, W .0, W .1)
 
--- src/entry.rt:49:1
 returns : tie.Need-returns
 returns c = search ends-are
 

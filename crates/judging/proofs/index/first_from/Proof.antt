@@ -1,3 +1,4 @@
+-- `judging::index::first_from` meets its contract. Assumes nothing.
 use Prim.Native.Nat.{_-_, _≤_}
 use native.Mathlib.Omega.{arith}
 use borrow.Author.Needs.{needs}
@@ -5,9 +6,6 @@ use Rattle.judging.specs.Lookup.{entryFrom}
 use Rattle.judging.proofs.Finding.{from-here, from-beyond, from-nowhere, from-most}
 use Rattle.judging.proofs.index.first_from.Statement.{statement}
 use Rattle.judging.proofs.index.first_from.Tie as tie
-use Rattle.judging.proofs.index.first_from.Reads as reads
-use Rattle.judging.proofs.index.first_from.Lts as lts
-use Rattle.certificate.proofs.entries.cell_of.Reads as cell-of-reads
 
 abbrev Inv-loop : tie.InvT-loop
 Inv-loop s start entries e d f₀ f = (f ≤ entryFrom s d) × (f ≤ entries)
@@ -15,31 +13,24 @@ Inv-loop s start entries e d f₀ f = (f ≤ entryFrom s d) × (f ≤ entries)
 abbrev μ-loop : tie.MeasureT-loop
 μ-loop s start entries e d f₀ f = entries - f
 
--- src/index.rt:14:5
 loop-holds : tie.Need-loop-holds Inv-loop μ-loop
 loop-holds c = (search needs, omega (arith, from-most (c .before .args .s .now) (c .before .args .d)))
 
--- src/index.rt:15:17
 cell-of-requires : tie.Need-cell-of-requires Inv-loop μ-loop
 cell-of-requires c κs = search needs
 
--- src/index.rt:16:13
 returns : tie.Need-returns Inv-loop μ-loop
 returns c = (from-here _ _ _ (omega arith) (omega arith), search needs)
 
--- src/index.rt:18:9
 add-f : tie.Need-add-f Inv-loop μ-loop
 add-f c = search needs
 
--- src/index.rt:14:5
 loop-less : tie.Need-loop-less Inv-loop μ-loop
 loop-less c = search needs
 
--- src/index.rt:14:5
 loop-again : tie.Need-loop-again Inv-loop μ-loop
 loop-again c = (from-beyond _ _ _ (omega arith) (omega arith) (omega arith), search needs)
 
--- src/index.rt:9:1
 returns-2 : tie.Need-returns-2 Inv-loop μ-loop
 returns-2 c = (from-nowhere _ _ _ (omega arith) (omega arith), search needs)
 

@@ -1,3 +1,4 @@
+-- `judging::index::index_of` meets its contract. Assumes nothing.
 use Prim.Native.Nat.{ℕ, _+_, _-_, _≤_, _<_}
 use mathlib.Core.Path.{_≡_}
 use native.Mathlib.Omega.{arith}
@@ -7,9 +8,6 @@ use Rattle.judging.specs.Lookup.{entryFrom}
 use Rattle.judging.proofs.Finding.{from-grows, store-more}
 use Rattle.judging.proofs.index.index_of.Statement.{statement}
 use Rattle.judging.proofs.index.index_of.Tie as tie
-use Rattle.judging.proofs.index.index_of.Reads as reads
-use Rattle.judging.proofs.index.index_of.Lts as lts
-use Rattle.judging.proofs.index.first_from.Reads as first-from-reads
 
 abbrev Inv-loop : tie.InvT-loop
 Inv-loop s start entries cells index₀ e₀ d₀ d-end index e d = (d ≤ d-end) × (d-end ≡ cells + 1) × (length index ≡ 4097) × (e ≤ entryFrom s d) × ((k : ℕ) → k < d → getD index k 0 ≡ entryFrom s k)
@@ -17,46 +15,36 @@ Inv-loop s start entries cells index₀ e₀ d₀ d-end index e d = (d ≤ d-end
 abbrev μ-loop : tie.MeasureT-loop
 μ-loop s start entries cells index₀ e₀ d₀ d-end index e d = d-end - d
 
--- src/index.rt:30:17
 add-d-end : tie.Need-add-d-end Inv-loop μ-loop
 add-d-end c = search needs
 
--- src/index.rt:30:5
 loop-holds : tie.Need-loop-holds Inv-loop μ-loop
 loop-holds c = (search needs, search needs, search needs, search needs, λ k lt. absurd (omega arith))
 
--- src/index.rt:31:9
 first-from-requires : tie.Need-first-from-requires Inv-loop μ-loop
 first-from-requires c κs = search needs
 
--- src/index.rt:32:20
 cast-index : tie.Need-cast-index Inv-loop μ-loop
 cast-index c = search needs
 
--- src/index.rt:32:9
 mul-index : tie.Need-mul-index Inv-loop μ-loop
 mul-index c = search needs
 
--- src/index.rt:32:9
 array-write-index : tie.Need-array-write-index Inv-loop μ-loop
 array-write-index c = search needs
 
--- src/index.rt:30:9
 add-d : tie.Need-add-d Inv-loop μ-loop
 add-d c = search needs
 
--- src/index.rt:30:5
 loop-less : tie.Need-loop-less Inv-loop μ-loop
 loop-less c = search needs
 
--- src/index.rt:30:5
 loop-again : tie.Need-loop-again Inv-loop μ-loop
 loop-again c =
     let l = c .before .before .loop in
     let here = c .first-from .ensures .0 in
     (omega arith, omega arith, search needs, rw here (from-grows _ _), store-more (l .index) (l .d) (c .first-from .result) _ (omega arith) (l .inv .4) here)
 
--- src/index.rt:24:1
 returns : tie.Need-returns Inv-loop μ-loop
 returns c = λ k le. c .before .loop .inv .4 k (omega arith)
 

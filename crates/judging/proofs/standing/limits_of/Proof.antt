@@ -1,3 +1,4 @@
+-- `judging::standing::limits_of` meets its contract. Assumes nothing.
 use Prim.Native.Nat.{_-_}
 use mathlib.Core.Bool.{_&&_}
 use mathlib.Core.Path.{_≡_, refl}
@@ -7,10 +8,6 @@ use Rattle.judging.specs.Judging.{isSafe, isGoal}
 use Rattle.judging.proofs.Edges.{edgesFrom, edges-more, edges-end}
 use Rattle.judging.proofs.standing.limits_of.Statement.{statement}
 use Rattle.judging.proofs.standing.limits_of.Tie as tie
-use Rattle.judging.proofs.standing.limits_of.Reads as reads
-use Rattle.judging.proofs.standing.limits_of.Lts as lts
-use Rattle.certificate.proofs.links.goal_of.Reads as goal-of-reads
-use Rattle.certificate.proofs.links.safe_of.Reads as safe-of-reads
 
 abbrev Inv-loop : tie.InvT-loop
 Inv-loop s links e upper safe₀ goal₀ l₀ safe goal l = ((safe && edgesFrom s e (safeOf s) l) ≡ isSafe s e) × ((goal && edgesFrom s e (goalOf s) l) ≡ isGoal s e)
@@ -18,48 +15,37 @@ Inv-loop s links e upper safe₀ goal₀ l₀ safe goal l = ((safe && edgesFrom 
 abbrev μ-loop : tie.MeasureT-loop
 μ-loop s links e upper safe₀ goal₀ l₀ safe goal l = links - l
 
--- src/standing.rt:22:5
 loop-holds : tie.Need-loop-holds Inv-loop μ-loop
 unfolding isSafe isGoal edgesFrom
 loop-holds c = (refl, refl)
 
--- src/standing.rt:23:24
 mul-safe : tie.Need-mul-safe Inv-loop μ-loop
 mul-safe c = search needs
 
--- src/standing.rt:23:24
 element-copy-out-safe : tie.Need-element-copy-out-safe Inv-loop μ-loop
 element-copy-out-safe c = search needs
 
--- src/standing.rt:23:36
 safe-of-requires : tie.Need-safe-of-requires Inv-loop μ-loop
 safe-of-requires c κs = search needs
 
--- src/standing.rt:24:24
 mul-goal : tie.Need-mul-goal Inv-loop μ-loop
 mul-goal c = search needs
 
--- src/standing.rt:24:24
 element-copy-out-goal : tie.Need-element-copy-out-goal Inv-loop μ-loop
 element-copy-out-goal c = search needs
 
--- src/standing.rt:24:36
 goal-of-requires : tie.Need-goal-of-requires Inv-loop μ-loop
 goal-of-requires c κs = search needs
 
--- src/standing.rt:22:9
 add-l : tie.Need-add-l Inv-loop μ-loop
 add-l c = search needs
 
--- src/standing.rt:22:5
 loop-less : tie.Need-loop-less Inv-loop μ-loop
 loop-less c = search needs
 
--- src/standing.rt:22:5
 loop-again : tie.Need-loop-again Inv-loop μ-loop
 loop-again c = (search edges-more, search edges-more)
 
--- src/standing.rt:16:1
 returns : tie.Need-returns Inv-loop μ-loop
 returns c = (search edges-end, search edges-end)
 

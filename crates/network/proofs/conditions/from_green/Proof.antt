@@ -3,8 +3,8 @@ use borrow.Author.Needs.{needs}
 use Rattle.network.proofs.conditions.from_green.Statement.{statement}
 use Rattle.network.proofs.conditions.from_green.Tie as tie
 
-from-of-requires : tie.Need-from-of-requires
-from-of-requires c κs = search needs
+from-within-requires : tie.Need-from-within-requires
+from-within-requires c κs = search needs
 
 is-green-requires : tie.Need-is-green-requires
 is-green-requires c κs = search needs
@@ -13,4 +13,4 @@ returns : tie.Need-returns
 returns c = cc
 
 pub from-green-spec : {M : Type 1} → statement M
-from-green-spec = tie.close (tie.spec from-of-requires is-green-requires returns)
+from-green-spec = tie.close (tie.spec from-within-requires is-green-requires returns)

@@ -11,14 +11,14 @@ use Rattle.network.proofs.conditions.green_pull.Tie as tie
 from-green-requires : tie.Need-from-green-requires
 from-green-requires c κs = search needs
 
-share-of-requires : tie.Need-share-of-requires
-share-of-requires c κs = search needs
+share-within-requires : tie.Need-share-within-requires
+share-within-requires c κs = search needs
 
-pull-of-requires : tie.Need-pull-of-requires
-pull-of-requires c κs = search needs
+pull-within-requires : tie.Need-pull-within-requires
+pull-within-requires c κs = search needs
 
 -- two bytes for the pull, one for the share
-size : (c : tie.After-pull-of) → c .before .share-of .result * c .pull-of .result ≤ 16711425
+size : (c : tie.After-pull-within) → c .before .share-within .result * c .pull-within .result ≤ 16711425
 size c = product-most 255 65535 (omega arith) (omega arith)
 
 mul-result : tie.Need-mul-result
@@ -33,4 +33,4 @@ returns-2 c = (search (pick-no, by-no), search needs)
 pub green-pull-spec : {M : Type 1} → statement M
 green-pull-spec =
     tie.close
-    (tie.spec from-green-requires share-of-requires pull-of-requires mul-result returns returns-2)
+    (tie.spec from-green-requires share-within-requires pull-within-requires mul-result returns returns-2)

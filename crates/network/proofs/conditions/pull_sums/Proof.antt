@@ -7,7 +7,7 @@ use Rattle.certificate.specs.Octets.{bitOf}
 use Rattle.certificate.specs.Loops.{pick}
 use Rattle.certificate.specs.Layout.{turnsOf, fromOf, toOf, shareOf, pullOf}
 use Rattle.network.specs.Conditions.{pullSum}
-use Rattle.network.proofs.Bounds.{turns-most, links-most, from-most, to-link}
+use Rattle.network.proofs.Bounds.{turns-most, links-most, from-most, to-link, turn-whole}
 use Rattle.network.proofs.Summing.{Summed, summed-zeros, summed-more}
 use Rattle.network.proofs.conditions.pull_sums.Statement.{statement}
 use Rattle.network.proofs.conditions.pull_sums.Tie as tie
@@ -22,15 +22,15 @@ abbrev μ-loop : tie.MeasureT-loop
 loop-holds : tie.Need-loop-holds Inv-loop μ-loop
 loop-holds c = (search needs, summed-zeros _ _ _ _ (links-most (c .before .pre)))
 
-to-of-requires : tie.Need-to-of-requires Inv-loop μ-loop
-to-of-requires c κs = search needs
+to-within-requires : tie.Need-to-within-requires Inv-loop μ-loop
+to-within-requires c κs = (search needs, search needs, search needs, turn-whole (c .before .before .before .pre) (c .before .loop .t) (c .loop-test .taken))
 
 -- the turn's to link is one of the links
-to-here : (c : tie.After-to-of Inv-loop μ-loop) → c .to-of .result < c .before .before .before .before .args .links
+to-here : (c : tie.After-to-within Inv-loop μ-loop) → c .to-within .result < c .before .before .before .before .args .links
 to-here c = omega (arith, to-link (c .before .before .before .before .pre) (c .before .before .loop .t) (c .before .loop-test .taken))
 
 green-pull-requires : tie.Need-green-pull-requires Inv-loop μ-loop
-green-pull-requires c κs = (omega (arith, turns-most (c .before .before .before .before .pre)), search needs, search needs, from-most (c .before .before .before .before .pre) (c .before .before .loop .t) (c .before .loop-test .taken))
+green-pull-requires c κs = (omega (arith, turns-most (c .before .before .before .before .pre)), search needs, search needs, from-most (c .before .before .before .before .pre) (c .before .before .loop .t) (c .before .loop-test .taken), turn-whole (c .before .before .before .before .pre) (c .before .before .loop .t) (c .before .loop-test .taken))
 
 mul-sums : tie.Need-mul-sums Inv-loop μ-loop
 mul-sums c = search needs
@@ -39,7 +39,7 @@ array-read-sums : tie.Need-array-read-sums Inv-loop μ-loop
 array-read-sums c = omega (arith, to-here (c .before), links-most (c .before .before .before .before .before .pre))
 
 add-sums : tie.Need-add-sums Inv-loop μ-loop
-add-sums c = omega (arith, c .before .before .before .loop .inv .1 .fits (c .before .to-of .result) (to-here (c .before)), turns-most (c .before .before .before .before .before .pre))
+add-sums c = omega (arith, c .before .before .before .loop .inv .1 .fits (c .before .to-within .result) (to-here (c .before)), turns-most (c .before .before .before .before .before .pre))
 
 mul-sums-2 : tie.Need-mul-sums-2 Inv-loop μ-loop
 mul-sums-2 c = search needs
@@ -54,7 +54,7 @@ loop-less : tie.Need-loop-less Inv-loop μ-loop
 loop-less c = search needs
 
 loop-again : tie.Need-loop-again Inv-loop μ-loop
-loop-again c = (search needs, summed-more _ _ _ _ _ _ _ _ _ _ (c .before .before .before .loop .inv .1) (to-here (c .before)) (c .before .to-of .ensures .0) (c .green-pull .ensures .0) (c .green-pull .ensures .1))
+loop-again c = (search needs, summed-more _ _ _ _ _ _ _ _ _ _ (c .before .before .before .loop .inv .1) (to-here (c .before)) (c .before .to-within .ensures .0) (c .green-pull .ensures .0) (c .green-pull .ensures .1))
 
 returns : tie.Need-returns Inv-loop μ-loop
 unfolding pullSum
@@ -67,7 +67,7 @@ pull-sums-spec =
     Inv-loop
     μ-loop
     loop-holds
-    to-of-requires
+    to-within-requires
     green-pull-requires
     mul-sums
     array-read-sums

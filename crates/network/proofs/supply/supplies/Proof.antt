@@ -5,7 +5,7 @@ use native.Mathlib.Omega.{arith}
 use borrow.Author.Needs.{needs}
 use Rattle.certificate.specs.Layout.{capOf, toOf, pullOf}
 use Rattle.network.specs.Roads.{at}
-use Rattle.network.proofs.Bounds.{turns-most, to-most, to-link}
+use Rattle.network.proofs.Bounds.{turns-most, to-most, to-link, turn-whole}
 use Rattle.network.proofs.Filling.{Filled, filled-none, filled-more}
 use Rattle.network.proofs.supply.supplies.Statement.{statement}
 use Rattle.network.proofs.supply.supplies.Tie as tie
@@ -23,7 +23,7 @@ supply-of-requires : tie.Need-supply-of-requires Inv-loop μ-loop
 supply-of-requires c κs =
     let R = c .before .before .before .pre .0 in
     let t = c .before .loop .t in
-    (omega (arith, turns-most R), search needs, search needs, to-most R t (c .loop-test .taken), c .before .before .before .pre .1 .fits _ (omega (arith, to-link R t (c .loop-test .taken))))
+    (omega (arith, turns-most R), search needs, search needs, to-most R t (c .loop-test .taken), c .before .before .before .pre .1 .fits _ (omega (arith, to-link R t (c .loop-test .taken))), turn-whole R t (c .loop-test .taken))
 
 mul-rooms : tie.Need-mul-rooms Inv-loop μ-loop
 mul-rooms c = search needs

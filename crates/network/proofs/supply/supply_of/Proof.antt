@@ -7,8 +7,8 @@ use Rattle.network.proofs.Fitting.{product-most}
 use Rattle.network.proofs.supply.supply_of.Statement.{statement}
 use Rattle.network.proofs.supply.supply_of.Tie as tie
 
-to-of-requires : tie.Need-to-of-requires
-to-of-requires c κs = search needs
+to-within-requires : tie.Need-to-within-requires
+to-within-requires c κs = search needs
 
 cap-of-requires : tie.Need-cap-of-requires
 cap-of-requires c κs = search needs
@@ -20,16 +20,16 @@ element-copy-out-room : tie.Need-element-copy-out-room
 element-copy-out-room c = search needs
 
 sub-room : tie.Need-sub-room
-sub-room c = rw (c .before .cap-of .ensures .0, c .before .before .to-of .ensures .0) (c .before .before .before .before .pre .4)
+sub-room c = rw (c .before .cap-of .ensures .0, c .before .before .to-within .ensures .0) (c .before .before .before .before .pre .4)
 
-pull-of-requires : tie.Need-pull-of-requires
-pull-of-requires c κs = search needs
+pull-within-requires : tie.Need-pull-within-requires
+pull-within-requires c κs = search needs
 
 mul-result : tie.Need-mul-result
 mul-result c =
-    let room = c .before .before .cap-of .result - getD (c .before .before .before .before .before .args .x .now) (c .before .before .before .to-of .result) 0 in
+    let room = c .before .before .cap-of .result - getD (c .before .before .before .before .before .args .x .now) (c .before .before .before .to-within .result) 0 in
     let wide : room ≤ 65535 = omega arith in
-    omega (arith, product-most 65535 65535 (let h : c .pull-of .result ≤ 65535 = omega arith in h) wide)
+    omega (arith, product-most 65535 65535 (let h : c .pull-within .result ≤ 65535 = omega arith in h) wide)
 
 returns : tie.Need-returns
 returns c = cc
@@ -38,11 +38,11 @@ pub supply-of-spec : {M : Type 1} → statement M
 supply-of-spec =
     tie.close
     (tie.spec
-    to-of-requires
+    to-within-requires
     cap-of-requires
     mul-room
     element-copy-out-room
     sub-room
-    pull-of-requires
+    pull-within-requires
     mul-result
     returns)

@@ -1,0 +1,83 @@
+-- `controller::writing::write_stored` meets its contract. Assumes nothing.
+use Prim.Native.Nat.{_≤_}
+use mathlib.Core.Path.{sym, _∙_}
+use native.Mathlib.Omega.{arith}
+use Rattle.certificate.specs.Layout.{maxLength}
+use Rattle.controller.specs.State.{stored}
+use Rattle.controller.specs.Write.{storing}
+use Rattle.controller.proofs.Copying.{put-back}
+use Rattle.controller.proofs.Holding.{holds-is-plain}
+use Rattle.controller.proofs.Writings.{wrote, too-short}
+use borrow.Author.Needs.{needs}
+use Rattle.controller.proofs.writing.write_stored.Statement.{statement}
+use Rattle.controller.proofs.writing.write_stored.Tie as tie
+
+-- the certificate's length fits the array
+fits : (c : tie.Start) → c .args .n ≤ maxLength
+fits c = holds-is-plain (storing (c .args .bytes .now) (c .args .n)) .0 (c .pre .1) .fits
+
+no-room-requires : tie.Need-no-room-requires
+no-room-requires c κs = search needs
+
+returns : tie.Need-returns
+returns c =
+    let s = c .before .before .before .before in
+    let a = s .args in
+    let w = too-short (storing (a .bytes .now) (a .n)) (a .buffer .now) (a .start) (s .pre .1) (λ r. omega arith) in
+    (c .no-room .ensures ∙ sym (w .0), sym (w .1))
+
+sub-if2 : tie.Need-sub-if2
+sub-if2 c = search needs
+
+no-room-requires-2 : tie.Need-no-room-requires-2
+no-room-requires-2 c κs = search needs
+
+returns-2 : tie.Need-returns-2
+returns-2 c =
+    let s = c .before .before .before .before .before in
+    let a = s .args in
+    let w = too-short (storing (a .bytes .now) (a .n)) (a .buffer .now) (a .start) (s .pre .1) (λ r. omega arith) in
+    (c .no-room2 .ensures ∙ sym (w .0), sym (w .1))
+
+sub-put : tie.Need-sub-put
+sub-put c = search needs
+
+part-put-start : tie.Need-part-put-start
+part-put-start c = search needs
+
+part-put-end : tie.Need-part-put-end
+part-put-end c = search needs
+
+put-requires : tie.Need-put-requires
+put-requires c κs = let l = fits (c .before .before .before .before .before) in search needs
+
+cast-t12 : tie.Need-cast-t12
+cast-t12 c = let l = fits (c .before .before .before .before .before .before .before .before) in search needs
+
+same-length : tie.Need-same-length
+same-length c = search needs
+
+returns-3 : tie.Need-returns-3
+returns-3 c =
+    let s = c .before .before .before .before .before .before .before .before in
+    let a = s .args in
+    let state = storing (a .bytes .now) (a .n) in
+    let w = wrote state (a .buffer .now) (a .start) (s .pre .1) (omega arith) in
+    (sym (w .0), put-back (a .buffer .now) (stored state) _ (a .start) (a .n) (c .before .before .put .ensures) ∙ sym (w .1))
+
+pub write-stored-spec : {M : Type 1} → statement M
+write-stored-spec =
+    tie.close
+    (tie.spec
+    no-room-requires
+    returns
+    sub-if2
+    no-room-requires-2
+    returns-2
+    sub-put
+    part-put-start
+    part-put-end
+    put-requires
+    cast-t12
+    same-length
+    returns-3)

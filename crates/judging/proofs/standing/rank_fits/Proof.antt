@@ -1,0 +1,10 @@
+-- `judging::standing::rank_fits` meets its contract. Assumes nothing.
+use Rattle.judging.proofs.Edges.{same-ranked}
+use Rattle.judging.proofs.standing.rank_fits.Statement.{statement}
+use Rattle.judging.proofs.standing.rank_fits.Tie as tie
+
+returns : tie.Need-returns
+returns c = search same-ranked
+
+pub rank-fits-spec : {M : Type 1} → statement M
+rank-fits-spec = tie.close (tie.spec returns)

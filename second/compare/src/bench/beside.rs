@@ -1,0 +1,88 @@
+//! What is timed beside the library's calls: the least that plain Rust does for the same result.
+
+use super::calls::{Call, LISTING, START};
+use super::sample::Sample;
+use crate::library::STATE_SIZE;
+use crate::{fast, peer};
+use second::Report;
+use std::hint::black_box;
+
+/// Plain Rust for a call, and the slices it fills.
+pub struct Beside<'a> {
+    call: Call,
+    sample: &'a Sample,
+    state: Vec<u8>,
+    back: Vec<u8>,
+    buffer: Vec<u8>,
+    /// The last verdict, of calls that need one.
+    pub verdict: Option<Report>,
+}
+
+impl<'a> Beside<'a> {
+    pub fn of(call: Call, sample: &'a Sample) -> Beside<'a> {
+        Beside {
+            call,
+            sample,
+            state: vec![0; STATE_SIZE],
+            back: vec![0; STATE_SIZE],
+            buffer: vec![0; LISTING],
+            verdict: None,
+        }
+    }
+
+    /// By the peer, which judges by the library's method.
+    #[inline]
+    pub fn make(&mut self) {
+        let bytes = black_box(&self.sample.bytes[..]);
+        match self.call {
+            Call::Screen => self.screen(),
+            Call::Judge => self.verdict = Some(peer::judge(bytes)),
+            Call::Load => {
+                self.verdict = Some(peer::judge(bytes));
+                self.copy_state();
+            }
+            Call::Query(_) => {
+                self.screen();
+                self.copy_state();
+                black_box(&mut self.back).copy_from_slice(black_box(&self.state));
+            }
+            Call::Write => {
+                self.screen();
+                self.copy_state();
+                self.copy_certificate();
+            }
+            Call::List => {
+                black_box(peer::listing(bytes, black_box(&mut self.buffer)));
+            }
+        }
+    }
+
+    /// Verdicts by the checker of another method; a write as a bare copy. Nothing for other calls.
+    #[inline]
+    pub fn make_other(&mut self) {
+        let bytes = black_box(&self.sample.bytes[..]);
+        match self.call {
+            Call::Judge => self.verdict = Some(fast::judge(bytes)),
+            Call::Load => {
+                self.verdict = Some(fast::judge(bytes));
+                self.copy_state();
+            }
+            Call::Write => self.copy_certificate(),
+            Call::Screen | Call::Query(_) | Call::List => (),
+        }
+    }
+
+    /// One pass of the tests before 12.
+    fn screen(&mut self) {
+        self.verdict = Some(fast::screen(black_box(&self.sample.bytes)));
+    }
+
+    fn copy_state(&mut self) {
+        black_box(&mut self.state).copy_from_slice(black_box(&self.sample.state));
+    }
+
+    fn copy_certificate(&mut self) {
+        let bytes = black_box(&self.sample.bytes[..]);
+        black_box(&mut self.buffer)[START..][..bytes.len()].copy_from_slice(bytes);
+    }
+}

@@ -1,0 +1,159 @@
+//! Calls of the library, ready to be made.
+
+use super::sample::{Asked, Sample, SCALE};
+use crate::library::{self, REPORT_SIZE, SHOWN_SIZE};
+use crate::sides::{report_numbers, state_bytes};
+use crate::{fast, peer};
+use second::{Report, State};
+use std::hint::black_box;
+
+/// Room for every listing.
+pub const LISTING: usize = 131_072;
+/// Where a write starts.
+pub const START: usize = 50;
+
+#[derive(Clone, Copy, Debug, PartialEq, Eq)]
+pub enum Call {
+    Screen,
+    Judge,
+    Load,
+    Query(Asked),
+    Write,
+    List,
+}
+
+impl Call {
+    const ALL: [Call; 7] = [
+        Call::Screen,
+        Call::Judge,
+        Call::Load,
+        Call::Query(Asked::First),
+        Call::Query(Asked::Last),
+        Call::Write,
+        Call::List,
+    ];
+
+    /// The call's name, and which cell a query asks for.
+    pub fn names(self) -> (&'static str, &'static str) {
+        match self {
+            Call::Screen => ("screen", ""),
+            Call::Judge => ("judge", ""),
+            Call::Load => ("load", ""),
+            Call::Query(Asked::First) => ("query", "first"),
+            Call::Query(Asked::Last) => ("query", "last"),
+            Call::Write => ("write", ""),
+            Call::List => ("list", ""),
+        }
+    }
+
+    /// The call by its name; `query-first` and `query-last` for the two queries.
+    pub fn named(name: &str) -> Result<Call, String> {
+        let is_named = |call: &Call| match call.names() {
+            (call, "") => call == name,
+            (call, asked) => name.strip_prefix(call) == Some(&format!("-{asked}")),
+        };
+        let call = Call::ALL.into_iter().find(is_named);
+        call.ok_or(format!("{name}: no such call"))
+    }
+}
+
+/// A call, the slices it is lent, and what it leaves there.
+pub struct Ready<'a> {
+    call: Call,
+    sample: &'a Sample,
+    queues: Vec<u32>,
+    state: Vec<u8>,
+    buffer: Vec<u8>,
+    shown: [u32; SHOWN_SIZE],
+}
+
+impl<'a> Ready<'a> {
+    pub fn of(call: Call, sample: &'a Sample) -> Ready<'a> {
+        let (state, queues) = match call {
+            Call::Load => (state_bytes(&State::fresh()), Vec::new()),
+            Call::Query(asked) => (sample.state.clone(), sample.queues(asked)),
+            _ => (sample.state.clone(), Vec::new()),
+        };
+        Ready {
+            call,
+            sample,
+            queues,
+            state,
+            buffer: vec![0; LISTING],
+            shown: [0; SHOWN_SIZE],
+        }
+    }
+
+    /// Makes the call once.
+    #[inline]
+    pub fn make(&mut self) {
+        let bytes = black_box(&self.sample.bytes[..]);
+        let state = black_box(&mut self.state[..]);
+        let buffer = black_box(&mut self.buffer[..]);
+        let report = &mut self.shown[..REPORT_SIZE];
+        black_box(match self.call {
+            Call::Screen => library::screen(bytes, report),
+            Call::Judge => library::judge(bytes, report),
+            Call::Load => library::load(state, bytes, report),
+            Call::Query(_) => library::query(state, &self.queues, SCALE, &mut self.shown),
+            Call::Write => library::write(state, buffer, START, report),
+            Call::List => library::list(bytes, buffer, report),
+        });
+    }
+
+    /// The numbers that the call has put down.
+    pub fn shown(&self) -> &[u32] {
+        match self.call {
+            Call::Query(_) => &self.shown,
+            _ => &self.shown[..REPORT_SIZE],
+        }
+    }
+
+    /// What the call must leave: verdicts by the plain checkers, the rest by the second checker and the sample. The
+    /// state holds the sample in mode 0 after every call, so it is the same for each.
+    pub fn due(&self) -> Ready<'a> {
+        let mut due = Ready::of(self.call, self.sample);
+        due.state.clone_from(&self.sample.state);
+        let bytes = &self.sample.bytes;
+        let report = match self.call {
+            Call::Screen => fast::screen(bytes),
+            Call::Judge | Call::Load => fast::judge(bytes),
+            Call::Query(_) => due.answer(),
+            Call::Write => {
+                due.buffer[START..][..bytes.len()].copy_from_slice(bytes);
+                Report::at(0, bytes.len())
+            }
+            Call::List => match peer::listing(bytes, &mut due.buffer) {
+                Some(length) => Report::at(0, length),
+                None => Report::refusal(17),
+            },
+        };
+        due.shown[..REPORT_SIZE].copy_from_slice(&report_numbers(report));
+        due
+    }
+
+    /// Puts down the second checker's signal and green byte.
+    fn answer(&mut self) -> Report {
+        let answer = self.sample.second_state().query(&self.queues, SCALE);
+        self.shown[REPORT_SIZE] = answer.signal.into();
+        self.shown[REPORT_SIZE + 1] = answer.green.into();
+        answer.report
+    }
+
+    /// The call must have succeeded, and have left what is due.
+    pub fn check(&self) -> Result<(), String> {
+        let due = self.due();
+        let (name, sample) = (self.call.names().0, self.sample.name);
+        let differs = |what: String| Err(format!("{name} {sample}: {what}"));
+        if self.shown() != due.shown() || self.shown[0] != 0 {
+            return differs(format!("due {:?}, got {:?}", due.shown(), self.shown()));
+        }
+        if self.state != due.state {
+            return differs("the state is not the due one".into());
+        }
+        if self.buffer != due.buffer {
+            return differs("the buffer is not the due one".into());
+        }
+        Ok(())
+    }
+}

@@ -1,0 +1,64 @@
+//! The cell of the entry that is judged.
+
+use super::network::{Network, MOST};
+
+/// A cell, its intervals, and how many intervals of each link keep to safe and to goal.
+pub struct Place {
+    cell: usize,
+    pub intervals: [usize; MOST],
+    safe: [usize; MOST],
+    goal: [usize; MOST],
+}
+
+impl Place {
+    /// Cell 0.
+    pub fn first(network: &Network) -> Place {
+        let mut place = Place {
+            cell: 0,
+            intervals: [0; MOST],
+            safe: [1; MOST],
+            goal: [1; MOST],
+        };
+        for (number, link) in network.link[..network.links].iter().enumerate() {
+            let upper = &network.edges[number][1..=network.counts[number]];
+            let within = |limit| upper.iter().filter(|&&edge| edge <= limit).count();
+            place.safe[number] = within(link.safe);
+            place.goal[number] = within(link.goal);
+        }
+        place
+    }
+
+    /// Takes another cell; the next one is taken without a division.
+    #[inline]
+    pub fn pass_to(&mut self, cell: usize, network: &Network) {
+        if cell == self.cell + 1 {
+            let mut link = network.links - 1;
+            while self.intervals[link] + 1 == network.counts[link] && link > 0 {
+                self.intervals[link] = 0;
+                link -= 1;
+            }
+            self.intervals[link] += 1;
+        } else if cell != self.cell {
+            self.intervals = network.intervals(cell);
+        }
+        self.cell = cell;
+    }
+
+    /// Are all upper edges at most safe?
+    #[inline]
+    pub fn is_safe(&self) -> bool {
+        self.within(&self.safe)
+    }
+
+    /// Are all upper edges at most goal?
+    #[inline]
+    pub fn is_goal(&self) -> bool {
+        self.within(&self.goal)
+    }
+
+    #[inline]
+    fn within(&self, counts: &[usize; MOST]) -> bool {
+        let links = self.intervals.iter().zip(counts);
+        links.fold(true, |all, (interval, count)| all & (interval < count))
+    }
+}

@@ -1,0 +1,29 @@
+//! A plain checker of the library's method, made for speed; its results are those of the second checker.
+//!
+//! Image ends before arrivals are taken once an entry, and the ranges of intervals once an arrival box. Successors are
+//! visited as runs of consecutive cells. Each of them is looked up by itself: an index tells where the entries of its
+//! cell start, they are walked for the mode, and the rank is compared.
+
+mod index;
+mod judging;
+mod runs;
+
+use crate::fast::listing::{put, put_refusal};
+use crate::fast::network::Network;
+use second::Report;
+
+/// Judges any bytes.
+pub fn judge(bytes: &[u8]) -> Report {
+    match judging::read_indexed(bytes, &mut Network::default()) {
+        Ok((read, index)) => judging::judge_entries(&read, &index),
+        Err(refusal) => refusal,
+    }
+}
+
+/// Puts the listing of the bytes into the buffer and tells its length; none if the buffer is too short.
+pub fn listing(bytes: &[u8], buffer: &mut [u8]) -> Option<usize> {
+    match judging::read_indexed(bytes, &mut Network::default()) {
+        Ok((read, index)) => put(&read, judging::judge_entries(&read, &index), buffer),
+        Err(refusal) => put_refusal(refusal, buffer),
+    }
+}
