@@ -201,18 +201,18 @@ fn longest_paper() {
     let due = "case c\n  load 3 0 0 0 mode 0 length 0\n";
     let fits = folder(
         "stream-fits",
-        &(long(65_536) + "case c\n  state p mode 0\n  fresh\n  load p\n"),
+        &(long(40_960) + "case c\n  state p mode 0\n  fresh\n  load p\n"),
         due,
     );
     plays(&fits);
-    let named = long(65_537) + "case c\n  load q\n  state p mode 0\n";
+    let named = long(40_961) + "case c\n  load q\n  state p mode 0\n";
     let named = folder("stream-long", &named, due);
-    let message = "x.cases:8: expected at most 65536 bytes, found 65537 in paper p";
+    let message = "x.cases:8: expected at most 40960 bytes, found 40961 in paper p";
     assert!(stream(&named).unwrap_err().ends_with(message));
     assert!(expected(&named).unwrap_err().ends_with(message));
     let unnamed = folder(
         "stream-unnamed",
-        &(long(65_537) + "case c\n  load q\n"),
+        &(long(40_961) + "case c\n  load q\n"),
         due,
     );
     plays(&unnamed);

@@ -9,11 +9,11 @@
 use libc::STDIN_FILENO;
 
 // The most bytes and queues that a call has, and the largest buffer that it is lent.
-pub const MOST_BYTES: usize = 65536;
+pub const MOST_BYTES: usize = 40960;
 
 pub const MOST_QUEUES: usize = 64;
 
-pub const MOST_LENT: usize = 131072;
+pub const MOST_LENT: usize = 49152;
 
 // No count: the stream does not go on as it must.
 pub const BROKEN: usize = 18446744073709551615;

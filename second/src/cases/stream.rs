@@ -18,7 +18,7 @@ use crate::state::State;
 use std::path::Path;
 
 /// A certificate in a stream has at most this many bytes.
-pub const MOST_BYTES: usize = 65_536;
+pub const MOST_BYTES: usize = 40_960;
 
 /// All cases of a folder.
 pub fn stream(folder: &Path) -> Result<Vec<u8>, String> {
