@@ -11,5 +11,5 @@ pub mod Jumps
 pub mod Moves
 pub mod Runs
 pub mod Odometer
-pub mod Rows
+pub mod Lists
 pub mod Locating

@@ -10,13 +10,13 @@ use lib.ListN.{getD}
 use Rattle.certificate.specs.Layout.{linksOf, intervalsOf, cellsOf}
 use Rattle.certificate.specs.Facts.{Readable}
 use Rattle.grid.specs.Cells.{intervalIn}
-use Rattle.grid.specs.Tables.{weightOf, inRange, Bounded, NoneIn, Sought, FullAfter, Starts, RowLeft, runEnd}
+use Rattle.grid.specs.Tables.{weightOf, inRange, Bounded, NoneIn, Sought, FullAfter, Starts, runEnd}
 use Rattle.grid.proofs.Numbers.{is-choice}
 use Rattle.grid.proofs.Ranging.{below-or}
 use Rattle.grid.proofs.Blocks.{spanOf, blockOf, span-all, span-next, block-holds, block-first, block-next, block-same, block-fits, interval-above, interval-same}
 use Rattle.grid.proofs.Jumps.{too-high, all-in, each-in, bounds-in, in-bounds, none-more}
 use Rattle.grid.proofs.Moves.{moved-in, moved-here, moved-start, moved-before, moved-after}
-use Rattle.grid.proofs.Runs.{AtFirst, row-whole, range-filled, none-below, run-place, run-within, run-to}
+use Rattle.grid.proofs.Runs.{AtFirst, none-below, run-place, run-within, run-to}
 
 -- the links from l on are gone through: base agrees with d before link l and is at the first intervals from there on, and no cell past the run up to the end of d's block lies in the ranges
 pub record Turned (s first last : List ℕ) (k d l base : ℕ) : Type 0 where
@@ -52,16 +52,13 @@ module _ (s : List ℕ) (R : Readable s) (first last : List ℕ) where
           found = λ lt. absurd (omega arith);
         }
 
-    pub turned-exists : (l base : ℕ) → l ≤ linksOf s → Turned s first last k d l base → base < cellsOf s
-    turned-exists l base le T = omega (arith, T .high, block-fits s R l d (S .exists) le)
-
     -- one link more
     module _ (l base : ℕ) (before : l < k) (T : Turned s first last k d (suc l) base) where
       exists : l < linksOf s
       exists = omega (arith, F .exists)
 
       -- base agrees with d up to link l
-      same : (m : ℕ) → m ≤ l → intervalIn s base m ≡ intervalIn s d m
+      pub same : (m : ℕ) → m ≤ l → intervalIn s base m ≡ intervalIn s d m
       same m le = interval-same s R (suc l) m base d (omega arith) (T .low) (T .high)
 
       wider : (blockOf s l d ≤ blockOf s (suc l) d) × (blockOf s (suc l) d + spanOf s (suc l) ≤ blockOf s l d + spanOf s l)
@@ -102,26 +99,13 @@ module _ (s : List ℕ) (R : Readable s) (first last : List ℕ) where
             high : l < m → inRange first last m (intervalIn s r m) ≡ true
             high above = bounds-in s first last r m (omega (arith, next-after m above lt)) (omega (arith, next-after m above lt, in-bounds s first last d (S .inside) m lt))
 
-        pub next-starts : Starts s first last k r
+        next-starts : Starts s first last k r
         next-starts =
             record {
               exists = omega (arith, moved-in s R l base r _ exists next-exists ahead-one, base-block, block-fits s R l d (S .exists) (omega (arith, exists)));
               inside = all-in s first last r next-in;
               at-first = λ m from lt. next-after m (omega arith) lt;
             }
-
-        -- the runs left in its row: one fewer along link l itself, and a whole row where a link before it moved
-        pub next-left : (left : ℕ) → suc l ≡ k → RowLeft s last k d (suc left) → RowLeft s last k r left
-        next-left left e h =
-            let is : k - 1 ≡ l = omega arith in
-            let here : intervalIn s d l + suc left ≡ getD last l 0 = rw is at (h .some (omega arith)) in
-            let at : intervalIn s r l ≡ suc (intervalIn s d l) = moved-here s R l base r _ exists next-exists ahead-one in
-            record { none = λ z. absurd (omega arith); some = λ lt. rw is (omega arith) }
-
-        pub next-row : suc l < k → RowLeft s last k r (getD last (k - 1) 0 - getD first (k - 1) 0)
-        next-row below =
-            let lt : k - 1 < linksOf s = omega (arith, F .exists) in
-            row-whole s first last k r (omega arith) (next-after (k - 1) (omega arith) lt) (range-filled s first last d (k - 1) (S .inside) lt)
 
         next-block : blockOf s (suc l) r ≡ blockOf s (suc l) d + spanOf s (suc l)
         next-block = omega (arith, moved-start s R l base r _ exists next-exists ahead-one, base-block, block-next s R l d exists, suc-mul (intervalIn s d l) (weightOf s l))
@@ -142,7 +126,7 @@ module _ (s : List ℕ) (R : Readable s) (first last : List ℕ) where
             let e : getD last l 0 - getD first l 0 + getD first l 0 ≡ intervalIn s d l = omega (arith, at-l) in
             rw e at (sym (add-mul (getD last l 0 - getD first l 0) (getD first l 0) (weightOf s l)))
 
-        pub back-fits : (getD last l 0 - getD first l 0) * weightOf s l ≤ base
+        back-fits : (getD last l 0 - getD first l 0) * weightOf s l ≤ base
         back-fits = omega (arith, back-size, block-next s R l d exists, T .low)
 
       module _ (r : ℕ) (done : getD last l 0 ≤ intervalIn s d l) (e : r ≡ base - (getD last l 0 - getD first l 0) * weightOf s l) where

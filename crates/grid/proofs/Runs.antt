@@ -11,10 +11,10 @@ use Rattle.certificate.specs.Layout.{linksOf, intervalsOf, cellsOf}
 use Rattle.certificate.specs.Facts.{Readable}
 use Rattle.grid.specs.Cells.{numberOf, intervalIn}
 use Rattle.grid.specs.Laws.{Choice}
-use Rattle.grid.specs.Tables.{weightOf, productOfLast, inRange, inRanges, Bounded, NoneIn, Sought, RunTo, FullAfter, Starts, RowLeft, runEnd}
+use Rattle.grid.specs.Tables.{weightOf, productOfLast, inRange, inRanges, Bounded, NoneIn, Sought, RunTo, FullAfter, Starts, runSize, runEnd}
 use Rattle.grid.proofs.Numbers.{numbers-fit, reads-back, is-choice}
 use Rattle.grid.proofs.Ranging.{below-or}
-use Rattle.grid.proofs.Blocks.{spanOf, blockOf, span-all, span-next, weight-least, regroup, block-holds, block-first, block-next, block-same, block-fits, interval-below, interval-grows, interval-same}
+use Rattle.grid.proofs.Blocks.{spanOf, blockOf, span-all, span-next, span-least, weight-least, regroup, block-holds, block-first, block-next, block-same, block-fits, interval-below, interval-grows, interval-same}
 use Rattle.grid.proofs.Jumps.{too-low, all-in, each-in, bounds-in, in-bounds}
 
 -- a run that starts at the first interval of every range starts so for each run link
@@ -25,14 +25,6 @@ starts-later s first last j k d le S =
 -- the range of each link has intervals where a cell lies in the ranges
 pub range-filled : (s first last : List ℕ) (d l : ℕ) → inRanges s first last d ≡ true → l < linksOf s → getD first l 0 ≤ getD last l 0
 range-filled s first last d l inside lt = omega (arith, in-bounds s first last d inside l lt)
-
--- the runs left in a row: none where the run link is the first, and all others of the row where d has its first interval
-pub row-none : (s last : List ℕ) (k d : ℕ) → k ≡ 0 → RowLeft s last k d 0
-row-none s last k d z = record { none = λ h. omega arith; some = λ lt. absurd (omega arith) }
-
-pub row-whole : (s first last : List ℕ) (k d : ℕ) → 0 < k → intervalIn s d (k - 1) ≡ getD first (k - 1) 0 → getD first (k - 1) 0 ≤ getD last (k - 1) 0
-    → RowLeft s last k d (getD last (k - 1) 0 - getD first (k - 1) 0)
-row-whole s first last k d lt at le = record { none = λ h. absurd (omega arith); some = λ h. omega arith }
 
 -- the last link has no links after it; a link with its full range can join those after the run link
 pub full-none : (s first last : List ℕ) (k : ℕ) → suc k ≡ linksOf s → FullAfter s first last k
@@ -54,6 +46,15 @@ full-more s first last j k e F zero-first last-end =
 span-one : (s : List ℕ) (l : ℕ) → l ≡ linksOf s → spanOf s l ≡ 1
 unfolding productOfLast
 span-one s l e = let z : linksOf s - l ≡ 0 = omega arith in rw z
+
+-- a block has no more cells than there are, nor has one interval of a link
+span-fits : (s : List ℕ) → Readable s → (l : ℕ) → l ≤ linksOf s → spanOf s l ≤ cellsOf s
+span-fits s R l le =
+    let some : 0 < cellsOf s = omega (arith, span-all s, span-least s R 0) in
+    omega (arith, block-fits s R l 0 some le)
+
+pub weight-fits : (s : List ℕ) → Readable s → (l : ℕ) → l < linksOf s → weightOf s l ≤ cellsOf s
+weight-fits s R l lt = span-fits s R (suc l) lt
 
 -- cell r has the first interval of the range on every link from l on
 abbrev pub AtFirst : List ℕ → List ℕ → ℕ → ℕ → Type 0
@@ -115,6 +116,12 @@ module _ (s : List ℕ) (R : Readable s) (first last : List ℕ) where
         let m : suc (getD first l 0) * weightOf s l ≤ intervalsOf s l * weightOf s l = mul-le-mul-right (weightOf s l) i in
         omega (arith, firsts-fit l (omega arith) (λ m lt. h m (omega arith)), firsts-more l le, suc-mul (getD first l 0) (weightOf s l), span-next s l le, mul-comm (weightOf s l) (intervalsOf s l))
 
+    -- a run has no more cells than there are
+    pub size-fits : (k : ℕ) → k < linksOf s → runSize s first last k ≤ cellsOf s
+    size-fits k lt =
+        let m : runSize s first last k ≤ intervalsOf s k * weightOf s k = mul-le-mul-right (weightOf s k) (omega (arith, B .last-most k lt)) in
+        omega (arith, span-next s k lt, mul-comm (weightOf s k) (intervalsOf s k), span-fits s R k (omega arith))
+
     -- the number of all first intervals is where the first run starts
     module _ (r : ℕ) (h : NotEmpty first last (linksOf s)) (e : r ≡ firstsOf s first (linksOf s)) where
       choice : Choice s (intervalsIn first)
@@ -161,7 +168,7 @@ module _ (s : List ℕ) (R : Readable s) (first last : List ℕ) where
           let exists = F .exists in
           rw (← S .at-first k (omega arith) exists) (block-next s R k d exists ∙ start-block (linksOf s - suc k) (suc k) (omega arith) (omega arith))
 
-      pub range-least : getD first k 0 ≤ getD last k 0
+      range-least : getD first k 0 ≤ getD last k 0
       range-least = omega (arith, in-bounds s first last d (S .inside) k (F .exists))
 
       pub run-place : runEnd s first last k d ≡ blockOf s k d + suc (getD last k 0) * weightOf s k

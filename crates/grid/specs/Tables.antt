@@ -121,14 +121,31 @@ pub record Starts (s first last : List ℕ) (k d : ℕ) : Type 0 where
   pub inside : inRanges s first last d ≡ true
   pub at-first : (l : ℕ) → k ≤ l → l < linksOf s → intervalIn s d l ≡ getD first l 0
 
--- `left` runs follow the one that starts at d along the link before the run link k
-pub record RowLeft (s last : List ℕ) (k d left : ℕ) : Type 0 where
-  pub none : k ≡ 0 → left ≡ 0
-  pub some : 0 < k → intervalIn s d (k - 1) + left ≡ getD last (k - 1) 0
+-- how many cells a run has, and the end of the run that starts at d
+abbrev pub runSize : List ℕ → List ℕ → List ℕ → ℕ → ℕ
+runSize s first last k = (getD last k 0 + 1 - getD first k 0) * weightOf s k
 
--- the end of the run that starts at d
 abbrev pub runEnd : List ℕ → List ℕ → List ℕ → ℕ → ℕ → ℕ
-runEnd s first last k d = d + (getD last k 0 + 1 - getD first k 0) * weightOf s k
+runEnd s first last k d = d + runSize s first last k
+
+-- element i of a list of n cells, and the number of cells past the last
+unfoldable pub startAt : List ℕ → List ℕ → ℕ → ℕ → ℕ
+startAt s starts n i = pick (ltb i n) (getD starts i 0) (cellsOf s)
+
+-- the first n elements of the list are where the runs start, ascending: every cell in the ranges lies in one of these runs
+pub record RunsOf (s first last : List ℕ) (k : ℕ) (starts : List ℕ) (n : ℕ) : Type 0 where
+  pub most : n ≤ cellsOf s
+  pub start : Sought s first last 0 (startAt s starts n 0)
+  pub run : (i : ℕ) → i < n → RunTo s first last (startAt s starts n i) (runEnd s first last k (startAt s starts n i))
+  pub next : (i : ℕ) → i < n → Sought s first last (runEnd s first last k (startAt s starts n i)) (startAt s starts n (i + 1))
+
+-- the first `size` elements of a repeated, one weight w later every time
+unfoldable pub repeated : List ℕ → ℕ → ℕ → ℕ → ℕ
+repeated a size w i = getD a (i % size) 0 + i / size * w
+
+-- the first n values of f are below 4096
+abbrev pub Small : ℕ → (ℕ → ℕ) → Type 0
+Small n f = (i : ℕ) → i < n → f i < 4096
 
 -- each queue of the table x, over scale D, is at most cap
 abbrev pub QueuesFit : List ℕ → ℕ → List ℕ → Type 0

@@ -3,4 +3,5 @@ pub mod digits;
 pub mod queues;
 pub mod ranges;
 pub mod seek;
+pub mod starts;
 pub mod tables;

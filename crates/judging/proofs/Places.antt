@@ -1,14 +1,17 @@
 -- Where the nested search stands, box by box and cell by cell: what is left to find, and how far the count can be. Assumes nothing.
-use Prim.Native.Nat.{ℕ, _+_, _*_, _-_, _≤_, _<_}
+use Prim.Native.Nat.{ℕ, suc, _+_, _*_, _-_, _≤_, _<_}
 use mathlib.Core.List.{List}
 use mathlib.Core.Bool.{true, false}
 use mathlib.Core.Path.{_≡_, refl, sym, ap, _∙_}
+use native.Mathlib.Nat.{zero-mul, suc-mul}
 use native.Mathlib.Omega.{arith}
+use lib.ListN.{length, getD}
 use Rattle.certificate.specs.declared.Report.{Report}
-use Rattle.certificate.specs.Checks.{result, orElse}
+use Rattle.certificate.specs.Checks.{result}
 use Rattle.certificate.specs.Layout.{cellsOf}
 use Rattle.certificate.proofs.Tests.{or-next, or-stop, or-both}
-use Rattle.grid.specs.Tables.{FullAfter, Starts, RowLeft}
+use Rattle.grid.specs.Tables.{Sought, RunTo, RunsOf, runSize, startAt}
+use Rattle.grid.proofs.Lists.{start-in, start-past}
 use Rattle.judging.specs.declared.Task.{Task}
 use Rattle.judging.specs.Judging.{follows, successorFault, accepted, boxesFrom, cellsFrom, IsTask}
 use Rattle.judging.specs.Tables.{BoxRanges}
@@ -38,12 +41,24 @@ pub record InRun (s : List ℕ) (task : Task) (count b d last n c : ℕ) : Type 
   pub fits : last ≤ task .cells
   pub all : (i : ℕ) → c ≤ i → i < last → follows s (task .entry) b i ≡ true
 
--- between the runs of box b: where there are cells left, one of the runs along link k starts at d, with `left` more in its row
-pub record AtRun (s : List ℕ) (task : Task) (count b : ℕ) (first last : List ℕ) (k : ℕ) (found : Report) (d left : ℕ) : Type 0 where
-  pub place : AtCell s task count b found d
-  pub ranges : BoxRanges s (task .entry) b first last
-  pub full : FullAfter s first last k
-  pub starts : d < task .cells → Starts s first last k d × RowLeft s last k d left
+-- the n runs of box b start where the list says, all of that size, and no other cell follows
+pub record BoxRuns (s : List ℕ) (task : Task) (b : ℕ) (starts : List ℕ) (n size : ℕ) : Type 0 where
+  pub sized : length starts ≡ 4096
+  pub most : n ≤ task .cells
+  pub some : 0 < n → 0 < size
+  pub fits : (i : ℕ) → i < n → startAt s starts n i + size ≤ task .cells
+  pub all : (i : ℕ) → i < n → (c : ℕ) → startAt s starts n i ≤ c → c < startAt s starts n i + size → follows s (task .entry) b c ≡ true
+  pub least : (i : ℕ) → i < n → startAt s starts n i + size ≤ startAt s starts n (i + 1)
+  pub next : (i : ℕ) → i < n → startAt s starts n (i + 1) ≤ task .cells
+  pub none : (i : ℕ) → i < n → (c : ℕ) → startAt s starts n i + size ≤ c → c < startAt s starts n (i + 1) → follows s (task .entry) b c ≡ false
+
+-- before run i of box b, with m looked up before the first
+pub record AtRun (s : List ℕ) (task : Task) (count b : ℕ) (starts : List ℕ) (n size m i : ℕ) : Type 0 where
+  pub place : AtCell s task count b (accepted (m + i * size)) (startAt s starts n i)
+  pub inside : i ≤ n
+  pub list : BoxRuns s task b starts n size
+  pub task-is : IsTask s task
+  pub box : b < task .boxes
 
 -- the answer of the search, and its greatest count
 abbrev pub Answers : List ℕ → Task → ℕ → Report → Type 0
@@ -100,6 +115,10 @@ runs {s} {task} {count} {b} {d} {last} {found} i lt most all =
     let none : found .count + (d - d) ≡ found .count = omega arith in
     record { rest = rw none (i .rest); most = i .most; from = omega arith; to = omega arith; fits = most; all = all }
 
+-- the cells looked up with one more: m before the box, n in the runs before this one and x in this one
+pub one-more : (m n x : ℕ) → m + (n + x) + 1 ≡ m + n + x + 1
+one-more m n x = omega arith
+
 module _ {s : List ℕ} {task : Task} (is : IsTask s task) {count b d last n : ℕ} where
   -- a run ends, with all its cells looked up
   pub ran : {c : ℕ} {r : Report} → last ≤ c → InRun s task count b d last n c → r ≡ accepted (n + (last - d)) → AtCell s task count b r last
@@ -118,8 +137,9 @@ module _ {s : List ℕ} {task : Task} (is : IsTask s task) {count b d last n : �
     inside : c < cellsOf s
     inside = rw (← is .cells-is) (omega (arith, at .fits))
 
-    pub refuses : {r : Report} → (k ≡ 0 → ⊥) → r ≡ result k (task .entry) c (n + (c - d) + 1) → Answers s task count r
-    refuses {r} z q =
+    pub refuses : {r : Report} {looked : ℕ} → (k ≡ 0 → ⊥) → r ≡ result k (task .entry) c looked → looked ≡ n + (c - d) + 1 → Answers s task count r
+    refuses {r} z e looked-is =
+        let q = e ∙ ap (λ (x : ℕ). result k (task .entry) c x) looked-is in
         let f = successorFault s (task .entry) c (n + (c - d) + 1) in
         let r-is = looked-refused s (task .entry) c (n + (c - d) + 1) k r k-is z q in
         let bad : f .number ≡ 0 → ⊥ = λ w. z (sym (ap (λ (p : Report). p .number) q) ∙ ap (λ (p : Report). p .number) (r-is ∙ or-next f _ w)) in
@@ -141,4 +161,80 @@ module _ {s : List ℕ} {task : Task} (is : IsTask s task) {count b d last n : �
           to = omega arith;
           fits = at .fits;
           all = λ i ge lt. at .all i (omega arith) lt;
+        }
+
+-- the first run of a box
+module _ {s : List ℕ} {task : Task} {b : ℕ} {first last : List ℕ} {k : ℕ} {starts : List ℕ} {n size : ℕ} (K : IsTask s task) (ranges : BoxRanges s (task .entry) b first last)
+    (all : RunsOf s first last k starts n) (size-is : size ≡ runSize s first last k) (sized : length starts ≡ 4096) where
+  run : (i : ℕ) → i < n → RunTo s first last (startAt s starts n i) (startAt s starts n i + size)
+  run i lt = rw size-is (all .run i lt)
+
+  next : (i : ℕ) → i < n → Sought s first last (startAt s starts n i + size) (startAt s starts n (i + 1))
+  next i lt = rw size-is (all .next i lt)
+
+  box-runs : BoxRuns s task b starts n size
+  box-runs =
+      record {
+        sized = sized;
+        most = omega (arith, all .most, K .cells-is);
+        some = λ lt. omega (arith, run 0 lt .least);
+        fits = λ i lt. omega (arith, run i lt .most, K .cells-is);
+        all = λ i lt c ge below. ranges .meet c ∙ run i lt .all c ge below;
+        least = λ i lt. next i lt .least;
+        next = λ i lt. omega (arith, next i lt .most, K .cells-is);
+        none = λ i lt c ge below. ranges .meet c ∙ next i lt .none c ge below;
+      }
+
+  pub first-run : {count : ℕ} {found : Report} → b < task .boxes → AtBox s task count found b → AtRun s task count b starts n size (found .count) 0
+  first-run {count} {found} lb at =
+      let q = all .start in
+      let none : found .count + 0 * size ≡ found .count = omega (arith, zero-mul size) in
+      let opened : AtCell s task count b found (startAt s starts n 0) = opens K lb (omega (arith, q .most, K .cells-is)) (λ c ge lt. ranges .meet c ∙ q .none c ge lt) at in
+      record {
+        place = rw none (record { rest = opened .rest; most = opened .most; inside = opened .inside; clear = refl });
+        inside = omega arith;
+        list = box-runs;
+        task-is = K;
+        box = lb;
+      }
+
+module _ {s : List ℕ} {task : Task} {count b : ℕ} {starts : List ℕ} {n size m i : ℕ} (at : AtRun s task count b starts n size m i) where
+  -- the count before run i, and past the last
+  pub runs-most : m + i * size ≤ 32768 * task .entry + 4096 * b + task .cells
+  runs-most = omega (arith, at .place .most, at .place .inside)
+
+  pub all-most : n ≤ i → m + n * size ≤ 32768 * task .entry + 4096 * b + task .cells
+  all-most le = let all : i ≡ n = omega (arith, at .inside) in rw all at runs-most
+
+  pub last-run : {r : Report} → n ≤ i → r ≡ accepted (m + n * size) → AtBox s task count r (b + 1)
+  last-run le e =
+      let all : i ≡ n = omega (arith, at .inside) in
+      let end : AtCell s task count b (accepted (m + n * size)) (startAt s starts n n) = rw all at (at .place) in
+      rw e (shuts (at .task-is) (at .box) (omega (arith, start-past s starts n n (omega arith), at .task-is .cells-is)) end)
+
+  -- the start of run i, read of the list
+  pub run-at : {d : ℕ} → i < n → d ≡ getD starts i 0 → d ≡ startAt s starts n i
+  run-at lt e = e ∙ sym (start-in s starts n i lt)
+
+  module _ (lt : i < n) (d : ℕ) (d-is : d ≡ startAt s starts n i) where
+    pub run-fits : d + size ≤ task .cells
+    run-fits = rw d-is (at .list .fits i lt)
+
+    -- run i begins, and ends
+    pub run-begins : InRun s task count b d (d + size) (m + i * size) d
+    run-begins =
+        runs {found = accepted (m + i * size)} (rw d-is (at .place)) (omega (arith, at .list .some (omega arith))) run-fits
+        (λ c ge below. at .list .all i lt c (omega arith) (omega arith))
+
+    pub run-ends : {c : ℕ} → d + size ≤ c → InRun s task count b d (d + size) (m + i * size) c → AtRun s task count b starts n size m (i + 1)
+    run-ends ge inside =
+        let one : i + 1 ≡ suc i = omega arith in
+        let more : m + (i + 1) * size ≡ m + i * size + (d + size - d) = rw one (omega (arith, suc-mul i size)) in
+        let ended : AtCell s task count b (accepted (m + (i + 1) * size)) (d + size) = ran (at .task-is) ge inside (ap (λ (x : ℕ). accepted x) more) in
+        record {
+          place = skips (at .task-is) (omega (arith, at .list .least i lt)) (at .list .next i lt) (λ c ge below. at .list .none i lt c (omega arith) below) ended;
+          inside = omega arith;
+          list = at .list;
+          task-is = at .task-is;
+          box = at .box;
         }

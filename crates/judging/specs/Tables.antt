@@ -13,7 +13,7 @@ use Rattle.network.specs.Roads.{FirstTurns}
 use Rattle.grid.specs.Cells.{lowerOf, upperOf}
 use Rattle.grid.specs.Successors.{imageLow, imageHigh}
 use Rattle.grid.specs.Laws.{ImageOf}
-use Rattle.grid.specs.Tables.{Holds, EdgesOf, DigitsOf, GridOf, Bounded, inRanges}
+use Rattle.grid.specs.Tables.{Holds, EdgesOf, GridOf, Bounded, inRanges}
 use Rattle.judging.specs.declared.LinkTables.{LinkTables}
 use Rattle.judging.specs.Lookup.{RanksOf}
 use Rattle.judging.specs.Judging.{follows}
@@ -31,15 +31,14 @@ pub record ArrivalsOf (s a : List ℕ) : Type 0 where
 unfoldable pub arrivalEntry : List ℕ → ℕ → ℕ
 arrivalEntry s k = 10000 * u16At s (arrivalAt s (k / 16) + (2 + 2 * (k % 16)))
 
--- the tables of a certificate that passes the tests before 12: those of its links, the ranks by mode and cell, the intervals of each
--- cell, the edges of the links' intervals, and the arrivals of each box
-pub record TablesOf (s : List ℕ) (tables : LinkTables) (ranks digits edges arrivals : List ℕ) : Type 0 where
+-- the tables of a certificate that passes the tests before 12: those of its links, the ranks by mode and cell, the edges of the links'
+-- intervals, and the arrivals of each box
+pub record TablesOf (s : List ℕ) (tables : LinkTables) (ranks edges arrivals : List ℕ) : Type 0 where
   pub screened : Screened s
   pub grid : GridOf s (tables .counts) (tables .weights) (tables .links)
   pub cap : CapsOf s (tables .caps)
   pub turn : FirstTurns s (tables .«first_turns»)
   pub ranked : RanksOf s ranks
-  pub digit : DigitsOf s digits
   pub edge : EdgesOf s edges
   pub arrival : ArrivalsOf s arrivals
 

@@ -1,6 +1,7 @@
 // The search through an entry's successors.
 ghost use mathlib.Core.Path.{_≡_};
 ghost use Prim.Native.Nat.{_+_, _*_, _-_, _<_, _≤_};
+ghost use lib.ListN.{length};
 ghost use Rattle.judging.specs.Lookup.{RanksOf};
 ghost use Rattle.judging.specs.Judging.{successorFault, boxesFrom, IsTask};
 ghost use Rattle.judging.specs.Tables.{TablesOf, EntryEnds};
@@ -10,9 +11,16 @@ use crate::boxes;
 use crate::standing;
 use certificate::Report;
 use grid::seek;
+use grid::starts;
 use network::ends;
 
 fn wide(x: u32) -> usize
+    ensures { λ r. ⌜ r ≡ x ⌝ }
+{
+    x as usize
+}
+
+fn wide_cell(x: u16) -> usize
     ensures { λ r. ⌜ r ≡ x ⌝ }
 {
     x as usize
@@ -35,27 +43,28 @@ fn successor_number(s: &[u8], task: Task, ranks: &[u32; 32768], at: usize) -> u8
 }
 
 // The nested search of an entry: arrival boxes ascending and successor cells ascending, left by the label at the first unlisted
-// or not lower successor. `before` has the ends of the entry's image before arrivals, `count` is the lookups before it.
+// or not lower successor. `before` has the ends of the entry's image before arrivals, `count` is the lookups before it;
+// `runs` is room for the starts of the runs of a box.
 pub fn search_boxes(
     s: &[u8],
     task: Task,
     tables: LinkTables,
     ranks: &[u32; 32768],
-    digits: &[u8; 32768],
     edges: &[usize; 128],
     arrivals: &[usize; 128],
+    runs: &mut [u16],
     before: ends::Ends,
     count: u32,
 ) -> Report
-    requires { ⌜ TablesOf (now s) tables (now ranks) (now digits) (now edges) (now arrivals) × IsTask (now s) task × EntryEnds (now s) (task .entry) (before .low) (before .high) × (count ≤ 32768 * task .entry) ⌝ }
-    ensures { λ r. ⌜ (r ≡ boxesFrom (now (s .entry)) (task .entry) 0 count) × (r .count ≤ 32768 * (task .entry + 1)) ⌝ }
+    requires { ⌜ TablesOf (now s) tables (now ranks) (now edges) (now arrivals) × IsTask (now s) task × EntryEnds (now s) (task .entry) (before .low) (before .high) × (count ≤ 32768 * task .entry) × (length (now runs) ≡ 4096) ⌝ }
+    ensures { λ r. ⌜ (r ≡ boxesFrom (now (s .entry)) (task .entry) 0 count) × (r .count ≤ 32768 * (task .entry + 1)) × (length (now (runs .exit)) ≡ 4096) ⌝ }
 {
     let weights = tables.weights;
     let mut found = standing::report(0, 0, 0, count);
     'search: for b in 0..task.boxes {
         let r = boxes::box_ranges(s, tables, edges, arrivals, before, task.entry, b);
         let k = seek::run_link(s, &tables.counts, &r.first, &r.last, tables.links);
-        let mut run = seek::first_run(
+        let n = starts::fill_starts(
             s,
             &tables.counts,
             &weights,
@@ -64,21 +73,22 @@ pub fn search_boxes(
             tables.links,
             task.cells,
             k,
+            runs,
         );
-        while run.at < task.cells {
-            let d = run.at;
-            let end = seek::run_end(
-                s,
-                &tables.counts,
-                &weights,
-                &r.first,
-                &r.last,
-                tables.links,
-                k,
-                d,
-            );
+        let size = seek::run_size(
+            s,
+            &tables.counts,
+            &weights,
+            &r.first,
+            &r.last,
+            tables.links,
+            k,
+        );
+        let mut i = 0;
+        while i < n {
+            let d = wide_cell(runs[i]);
             let mut at = task.row + d;
-            let stop = at + (end - d);
+            let stop = at + size;
             while at < stop {
                 let number = successor_number(s, task, ranks, at);
                 if number != 0 {
@@ -86,27 +96,15 @@ pub fn search_boxes(
                         number,
                         task.entry,
                         at - task.row,
-                        found.count + (at - task.row - d) as u32 + 1,
+                        found.count + (i * size + (at - task.row - d)) as u32 + 1,
                     );
                     break 'search;
                 }
                 at += 1;
             }
-            found = standing::report(0, 0, 0, found.count + (end - d) as u32);
-            run = seek::next_run(
-                s,
-                digits,
-                &tables.counts,
-                &weights,
-                &r.first,
-                &r.last,
-                tables.links,
-                task.cells,
-                k,
-                d,
-                run.left,
-            );
+            i += 1;
         }
+        found = standing::report(0, 0, 0, found.count + (n * size) as u32);
     }
     found
 }

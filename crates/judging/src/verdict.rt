@@ -7,7 +7,7 @@ ghost use Rattle.certificate.specs.Facts.{Readable};
 ghost use Rattle.certificate.specs.Laid.{LaidOut};
 ghost use Rattle.network.specs.Laws.{Screened};
 ghost use Rattle.network.specs.Roads.{FirstTurns};
-ghost use Rattle.grid.specs.Tables.{GridOf};
+ghost use Rattle.grid.specs.Tables.{GridOf, DigitsOf};
 ghost use Rattle.judging.specs.Lookup.{RanksOf};
 ghost use Rattle.judging.specs.Judging.{entryAlone, judgingFrom};
 ghost use Rattle.judging.specs.Tables.{CapsOf, TablesOf};
@@ -36,11 +36,12 @@ fn judge_entry(
     digits: &[u8; 32768],
     edges: &[usize; 128],
     arrivals: &[usize; 128],
+    runs: &mut [u16],
     e: usize,
     count: u32,
 ) -> Report
-    requires { ⌜ LaidOut (now s) layout × TablesOf (now s) tables (now ranks) (now digits) (now edges) (now arrivals) × (e < entriesOf (now s)) × (count ≤ 32768 * e) ⌝ }
-    ensures { λ r. ⌜ (r ≡ entryAlone (now (s .entry)) e count) × (r .count ≤ 32768 * (e + 1)) ⌝ }
+    requires { ⌜ LaidOut (now s) layout × TablesOf (now s) tables (now ranks) (now edges) (now arrivals) × (e < entriesOf (now s)) × (count ≤ 32768 * e) × DigitsOf (now s) (now digits) × (length (now runs) ≡ 4096) ⌝ }
+    ensures { λ r. ⌜ (r ≡ entryAlone (now (s .entry)) e count) × (r .count ≤ 32768 * (e + 1)) × (length (now (runs .exit)) ≡ 4096) ⌝ }
 {
     let task = entry::task_of(s, layout, e);
     let c = entries::cell_of(s, layout.entries_start, e);
@@ -52,17 +53,7 @@ fn judge_entry(
         return f;
     }
     let before = entry::entry_ends(s, layout, &tables.first_turns, e, &lower, &upper);
-    search::search_boxes(
-        s,
-        task,
-        tables,
-        ranks,
-        digits,
-        edges,
-        arrivals,
-        before,
-        count,
-    )
+    search::search_boxes(s, task, tables, ranks, edges, arrivals, runs, before, count)
 }
 
 // Entries in order: the first refusal, or accepted with the count.
@@ -74,14 +65,26 @@ fn judge_entries(
     digits: &[u8; 32768],
     edges: &[usize; 128],
     arrivals: &[usize; 128],
+    runs: &mut [u16],
 ) -> Report
-    requires { ⌜ LaidOut (now s) layout × TablesOf (now s) tables (now ranks) (now digits) (now edges) (now arrivals) ⌝ }
+    requires { ⌜ LaidOut (now s) layout × TablesOf (now s) tables (now ranks) (now edges) (now arrivals) × DigitsOf (now s) (now digits) × (length (now runs) ≡ 4096) ⌝ }
     ensures { λ r. ⌜ r ≡ judgingFrom (now (s .entry)) 0 0 ⌝ }
 {
     let entries = layout.entries;
     let mut count: u32 = 0;
     for e in 0..entries {
-        let r = judge_entry(s, layout, tables, ranks, digits, edges, arrivals, e, count);
+        let r = judge_entry(
+            s,
+            layout,
+            tables,
+            ranks,
+            digits,
+            edges,
+            arrivals,
+            runs,
+            e,
+            count,
+        );
         if r.number != 0 {
             return r;
         }
@@ -136,7 +139,17 @@ fn judge_screened(s: &[u8], layout: Layout) -> Report
     let arrivals = amounts::arrivals_of(s, layout.arrivals_start, links, layout.boxes);
     let mut ranks = [0u32; 32768];
     rank_table(s, layout, &mut ranks);
-    judge_entries(s, layout, tables, &ranks, &digits, &edges, &arrivals)
+    let mut runs = [0u16; 4096];
+    judge_entries(
+        s,
+        layout,
+        tables,
+        &ranks,
+        &digits,
+        &edges,
+        &arrivals,
+        &mut runs,
+    )
 }
 
 // The verdict.

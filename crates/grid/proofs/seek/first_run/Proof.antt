@@ -9,15 +9,15 @@ use Rattle.certificate.specs.Layout.{linksOf}
 use Rattle.certificate.proofs.Size.{cells-in-range}
 use Rattle.grid.proofs.Jumps.{none-in}
 use Rattle.grid.specs.Tables.{Starts, Sought}
-use Rattle.grid.proofs.Runs.{starts-later, range-filled, row-none, row-whole, NotEmpty, firstsOf, firsts-none, firsts-more, firsts-fit, first-starts, first-sought}
+use Rattle.grid.proofs.Runs.{NotEmpty, firstsOf, firsts-none, firsts-more, firsts-fit, first-starts, first-sought}
 use Rattle.grid.proofs.seek.first_run.Statement.{statement}
 use Rattle.grid.proofs.seek.first_run.Tie as tie
 
 abbrev Inv-loop : tie.InvT-loop
-Inv-loop s counts weights first last links cells k base₀ l₀ base l = (base ≡ firstsOf s first l) × NotEmpty first last l × (l ≤ links)
+Inv-loop s counts weights first last links cells base₀ l₀ base l = (base ≡ firstsOf s first l) × NotEmpty first last l × (l ≤ links)
 
 abbrev μ-loop : tie.MeasureT-loop
-μ-loop s counts weights first last links cells k base₀ l₀ base l = links - l
+μ-loop s counts weights first last links cells base₀ l₀ base l = links - l
 
 exists : (c : tie.In-loop Inv-loop μ-loop) → c .before .loop .l < linksOf (c .before .before .before .args .s .now)
 exists c = omega arith
@@ -102,44 +102,7 @@ whole c =
     (first-sought s R _ _ (a .pre .1) (l .base) full e, first-starts s R _ _ (a .pre .1) (l .base) full e)
 
 returns-2 : tie.Need-returns-2 Inv-loop μ-loop
-returns-2 c =
-    let w = whole (c .before) in
-    (w .0, λ h. (starts-later _ _ _ 0 _ _ (omega arith) (w .1), row-none _ _ _ _ (c .if2 .taken)))
-
-sub-t22 : tie.Need-sub-t22 Inv-loop μ-loop
-sub-t22 c = omega arith
-
-mul-t23 : tie.Need-mul-t23 Inv-loop μ-loop
-mul-t23 c = omega arith
-
-element-copy-out-t26 : tie.Need-element-copy-out-t26 Inv-loop μ-loop
-element-copy-out-t26 c = omega arith
-
-sub-t27 : tie.Need-sub-t27 Inv-loop μ-loop
-sub-t27 c = omega arith
-
-mul-t28 : tie.Need-mul-t28 Inv-loop μ-loop
-mul-t28 c = omega arith
-
-element-copy-out-t31 : tie.Need-element-copy-out-t31 Inv-loop μ-loop
-element-copy-out-t31 c = omega arith
-
--- the link before the run link has intervals in its range
-filled : (c : tie.Else2 Inv-loop μ-loop)
-    → getD (c .before .before .before .before .args .first .now) (c .before .before .before .before .args .k - 1) 0 ≤ getD (c .before .before .before .before .args .last .now) (c .before .before .before .before .args .k - 1) 0
-filled c =
-    let a = c .before .before .before .before in
-    range-filled (a .args .s .now) _ _ _ (a .args .k - 1) (whole (c .before) .1 .inside) (omega arith)
-
-sub-t32 : tie.Need-sub-t32 Inv-loop μ-loop
-sub-t32 c = filled (c .before .before)
-
-returns-3 : tie.Need-returns-3 Inv-loop μ-loop
-returns-3 c =
-    let e = c .before .before in
-    let a = e .before .before .before .before in
-    let w = whole (e .before) in
-    (w .0, λ h. (starts-later _ _ _ 0 _ _ (omega arith) (w .1), row-whole _ (a .args .first .now) (a .args .last .now) _ _ (omega arith) (w .1 .at-first (a .args .k - 1) (omega arith) (omega arith)) (filled e)))
+returns-2 c = let w = whole c in (w .0, λ h. w .1)
 
 pub first-run-spec : {M : Type 1} → statement M
 first-run-spec =
@@ -159,12 +122,4 @@ first-run-spec =
     add-l
     loop-less
     loop-again
-    returns-2
-    sub-t22
-    mul-t23
-    element-copy-out-t26
-    sub-t27
-    mul-t28
-    element-copy-out-t31
-    sub-t32
-    returns-3)
+    returns-2)

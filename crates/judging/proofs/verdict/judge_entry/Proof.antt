@@ -13,13 +13,13 @@ cell-of-requires : tie.Need-cell-of-requires
 cell-of-requires c κs = search needs
 
 cell-edges-requires : tie.Need-cell-edges-requires
-cell-edges-requires c κs = let p = c .before .before .before .pre in
+cell-edges-requires c κs = let p = c .before .before .before .before .pre in
     let T = p .1 in
     let R = T .screened .readable in
-    (R, T .digit, T .edge, T .grid .link, rw (c .cell-of .ensures .0) (R .entry _ (p .2) .cell))
+    (R, p .4, T .edge, T .grid .link, rw (c .cell-of .ensures .0) (R .entry _ (p .2) .cell))
 
 check-standing-requires : tie.Need-check-standing-requires
-check-standing-requires c κs = let p = c .before .before .before .before .before .before .before .pre in
+check-standing-requires c κs = let p = c .before .before .before .before .before .before .before .before .pre in
     let T = p .1 in
     let K = c .before .before .before .before .before .task-of .ensures in
     let R = T .screened .readable in (
@@ -32,23 +32,27 @@ check-standing-requires c κs = let p = c .before .before .before .before .befor
 
 returns : tie.Need-returns
 returns c = let f = c .before .before .check-standing in
-    (not-standing _ _ _ _ (f .ensures) (c .if1 .taken), omega (arith, standing-count _ _ _ _ (f .ensures), c .before .before .before .before .before .before .before .before .before .before .pre .3))
+    (not-standing _ _ _ _ (f .ensures) (c .if1 .taken), omega (arith, standing-count _ _ _ _ (f .ensures), c .before .before .before .before .before .before .before .before .before .before .before .pre .3), c .before .before .before .before .before .before .before .before .before .before .before .pre .5)
 
 entry-ends-requires : tie.Need-entry-ends-requires
-entry-ends-requires c κs = let p = c .before .before .before .before .before .before .before .before .before .before .before .before .before .before .pre in
+entry-ends-requires c κs = let p = c .before .before .before .before .before .before .before .before .before .before .before .before .before .before .before .pre in
     let T = p .1 in
     (T .screened, p .0, T .turn, p .2, rw (c .before .before .before .before .before .before .before .before .before .before .before .cell-of .ensures .0) at (c .before .before .before .before .before .before .before .before .before .before .cell-edges .ensures))
 
 search-boxes-requires : tie.Need-search-boxes-requires
-search-boxes-requires c κs = let p = c .before .before .before .before .before .before .before .before .before .before .before .before .before .before .before .pre in
-    let K = c .before .before .before .before .before .before .before .before .before .before .before .before .before .task-of .ensures in
-    (p .1, K .0, rw (K .1) (c .entry-ends .ensures), rw (K .1) (p .3))
+search-boxes-requires c κs = let p = c .before .before .before .before .before .before .before .before .before .before .before .before .before .before .before .before .before .pre in
+    let K = c .before .before .before .before .before .before .before .before .before .before .before .before .before .before .task-of .ensures in
+    (p .1, K .0, rw (K .1) (c .before .entry-ends .ensures), rw (K .1) (p .3), p .5)
+
+same-length : tie.Need-same-length
+same-length c = omega (arith, c .before .before .search-boxes .ensures .2, c .before .before .before .before .before .before .before .before .before .before .before .before .before .before .before .before .before .before .before .before .pre .5)
 
 returns-2 : tie.Need-returns-2
-returns-2 c = let K = c .before .before .before .before .before .before .before .before .before .before .before .before .before .before .task-of .ensures in
-    let f = c .before .before .before .before .before .before .before .before .check-standing in
-    let r = rw (K .1) at (c .search-boxes .ensures) in
-    (searched _ _ _ _ (f .ensures) _ (c .before .before .before .before .before .before .if1 .left) (r .0), r .1)
+returns-2 c = let K = c .before .before .before .before .before .before .before .before .before .before .before .before .before .before .before .before .before .task-of .ensures in
+    let f = c .before .before .before .before .before .before .before .before .before .before .before .check-standing in
+    let r = c .before .before .search-boxes .ensures in
+    let e = rw (K .1) at (r .0) in
+    (searched _ _ _ _ (f .ensures) _ (c .before .before .before .before .before .before .before .before .before .if1 .left) e, rw (K .1) at (r .1), r .2)
 
 pub judge-entry-spec : {M : Type 1} → statement M
 judge-entry-spec =
@@ -61,4 +65,5 @@ judge-entry-spec =
     returns
     entry-ends-requires
     search-boxes-requires
+    same-length
     returns-2)
