@@ -13,7 +13,7 @@ use Rattle.certificate.specs.Layout.{linksOf, intervalsOf, cellsOf}
 use Rattle.certificate.specs.Facts.{Readable}
 use Rattle.certificate.proofs.Size.{cells-in-range}
 use Rattle.grid.specs.Cells.{intervalIn}
-use Rattle.grid.specs.Tables.{weightOf, inRange, Bounded, Sought, FullAfter, Starts, runEnd, startAt, RunsOf, repeated, Small}
+use Rattle.grid.specs.Tables.{weightOf, inRange, Bounded, Sought, FullAfter, Starts, runSize, runEnd, startAt, RunsOf, repeated, Small}
 use Rattle.grid.proofs.Ranging.{below-or}
 use Rattle.grid.proofs.Blocks.{spanOf, span-next, span-least, block-fits}
 use Rattle.grid.proofs.Jumps.{all-in, each-in, bounds-in}
@@ -186,6 +186,9 @@ pub start-past : (s a : List ℕ) (n i : ℕ) → n ≤ i → startAt s a n i �
 unfolding startAt
 start-past s a n i le = rw (le-ltb i n le)
 
+pub start-most : (s a : List ℕ) (n : ℕ) → ((i : ℕ) → i < n → startAt s a n i ≤ cellsOf s) → (i : ℕ) → startAt s a n i ≤ cellsOf s
+start-most s a n h i = ⊎-elim (λ lt. h i lt) (λ le. omega (arith, start-past s a n i le)) (below-or i n)
+
 -- the first `size` values of f are the starts of the runs of the block of cells that starts at base on the links from l on
 pub record Listed (s first last : List ℕ) (k l size : ℕ) (f : ℕ → ℕ) (base : ℕ) : Type 0 where
   pub offsets : Offsets s first last k l size (λ i. f i - base)
@@ -244,7 +247,7 @@ module _ (s : List ℕ) (R : Readable s) (first last : List ℕ) (B : Bounded s 
         (λ (more : suc i < size). rw (start-in s a size (suc i) more) (rw (back i lt, back (suc i) more) at (L .offsets .next base S i more)))
         (eq-or-lt-of-le lt)
 
-    pub listed-all : RunsOf s first last k a size
+    pub listed-all : RunsOf s first last a size (runSize s first last k)
     listed-all =
         record {
           most = listed-fits 0 size _ (omega arith) L;
@@ -257,9 +260,9 @@ module _ (s : List ℕ) (R : Readable s) (first last : List ℕ) (B : Bounded s 
         }
 
 -- no runs where there is no cell in the ranges
-pub listed-none : (s first last : List ℕ) (k : ℕ) (a : List ℕ) → Sought s first last 0 (cellsOf s) → RunsOf s first last k a 0
+pub listed-none : (s first last a : List ℕ) (size : ℕ) → Sought s first last 0 (cellsOf s) → RunsOf s first last a 0 size
 unfolding startAt
-listed-none s first last k a Q =
+listed-none s first last a size Q =
     record { most = omega arith; start = Q; run = λ i lt. absurd (omega arith); next = λ i lt. absurd (omega arith) }
 
 -- how the list is filled: what is there already, and one element more

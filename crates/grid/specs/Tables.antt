@@ -132,12 +132,12 @@ runEnd s first last k d = d + runSize s first last k
 unfoldable pub startAt : List ℕ → List ℕ → ℕ → ℕ → ℕ
 startAt s starts n i = pick (ltb i n) (getD starts i 0) (cellsOf s)
 
--- the first n elements of the list are where the runs start, ascending: every cell in the ranges lies in one of these runs
-pub record RunsOf (s first last : List ℕ) (k : ℕ) (starts : List ℕ) (n : ℕ) : Type 0 where
+-- the first n elements of the list are where the runs start, ascending, each of that size: every cell in the ranges lies in one of them
+pub record RunsOf (s first last starts : List ℕ) (n size : ℕ) : Type 0 where
   pub most : n ≤ cellsOf s
   pub start : Sought s first last 0 (startAt s starts n 0)
-  pub run : (i : ℕ) → i < n → RunTo s first last (startAt s starts n i) (runEnd s first last k (startAt s starts n i))
-  pub next : (i : ℕ) → i < n → Sought s first last (runEnd s first last k (startAt s starts n i)) (startAt s starts n (i + 1))
+  pub run : (i : ℕ) → i < n → RunTo s first last (startAt s starts n i) (startAt s starts n i + size)
+  pub next : (i : ℕ) → i < n → Sought s first last (startAt s starts n i + size) (startAt s starts n (i + 1))
 
 -- the first `size` elements of a repeated, one weight w later every time
 unfoldable pub repeated : List ℕ → ℕ → ℕ → ℕ → ℕ

@@ -52,13 +52,13 @@ fn last_of(s: &[u8], edges: &[usize; 128], l: usize, count: usize, high: usize) 
     i
 }
 
-pub fn ranges_of(
+pub fn ranges_of<'a>(
     s: &[u8],
     edges: &[usize; 128],
     counts: &[usize; 8],
     links: usize,
-    low: &[usize; 8],
-    high: &[usize; 8],
+    low: &'a [usize; 8],
+    high: &'a [usize; 8],
 ) -> Ranges
     requires { ⌜ Readable (now s) × EdgesOf (now s) (now edges) × CountsOf (now s) (now counts) × (links ≡ linksOf (now s)) ⌝ }
     ensures { λ r. ⌜ RangesOf (now (s .entry)) (now (low .entry)) (now (high .entry)) (r .first) (r .last) ⌝ }

@@ -13,7 +13,8 @@ use Rattle.certificate.proofs.Tests.{passes, or-next, or-stop}
 use Rattle.certificate.proofs.Cases.{first, second}
 use Rattle.certificate.proofs.Loops.{from-turn, from-end}
 use borrow.Author.Tests.{eq-eqb, ne-eqb}
-use Rattle.judging.specs.Judging.{standingFault, cellTurn, boxTurn, entryTurn, accepted, judgingFrom, boxesFrom, entryAlone}
+use Rattle.judging.specs.Judging.{standingFault, cellTurn, boxTurn, entryTurn, accepted, judgingFrom}
+use Rattle.judging.specs.Tables.{boxesFrom, entryAlone}
 
 -- a refusal is the answer; else what is next goes on from its count
 after : Report → (ℕ → Report) → Report

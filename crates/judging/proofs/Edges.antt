@@ -9,7 +9,8 @@ use Rattle.certificate.specs.Loops.{everyFrom}
 use Rattle.certificate.specs.Layout.{linksOf, cellOf, rankOf}
 use Rattle.certificate.proofs.Loops.{every-turn, every-end}
 use Rattle.grid.specs.Cells.{upperOf}
-use Rattle.judging.specs.Judging.{isGoal, isRanked, UpperEdges}
+use Rattle.judging.specs.Judging.{isGoal, isRanked}
+use Rattle.judging.specs.Tables.{UpperEdges}
 
 -- the links from l on have their upper edges at most a limit
 unfoldable pub edgesFrom : List ℕ → ℕ → (ℕ → ℕ) → ℕ → Bool

@@ -10,11 +10,11 @@ use Rattle.certificate.specs.declared.Report.{Report}
 use Rattle.certificate.specs.Checks.{result}
 use Rattle.certificate.specs.Layout.{cellsOf}
 use Rattle.certificate.proofs.Tests.{or-next, or-stop, or-both}
-use Rattle.grid.specs.Tables.{Sought, RunTo, RunsOf, runSize, startAt}
+use Rattle.grid.specs.Tables.{startAt}
 use Rattle.grid.proofs.Lists.{start-in, start-past}
 use Rattle.judging.specs.declared.Task.{Task}
-use Rattle.judging.specs.Judging.{follows, successorFault, accepted, boxesFrom, cellsFrom, IsTask}
-use Rattle.judging.specs.Tables.{BoxRanges}
+use Rattle.judging.specs.Judging.{follows, successorFault, accepted}
+use Rattle.judging.specs.Tables.{BoxRuns, boxesFrom, cellsFrom, IsTask}
 use Rattle.judging.proofs.Successors.{looked-refused, looked-fine, fault-count}
 use Rattle.judging.proofs.Searching.{open-box, shut-box, end-search, skip, holds, stops}
 
@@ -41,22 +41,12 @@ pub record InRun (s : List ℕ) (task : Task) (count b d last n c : ℕ) : Type 
   pub fits : last ≤ task .cells
   pub all : (i : ℕ) → c ≤ i → i < last → follows s (task .entry) b i ≡ true
 
--- the n runs of box b start where the list says, all of that size, and no other cell follows
-pub record BoxRuns (s : List ℕ) (task : Task) (b : ℕ) (starts : List ℕ) (n size : ℕ) : Type 0 where
-  pub sized : length starts ≡ 4096
-  pub most : n ≤ task .cells
-  pub some : 0 < n → 0 < size
-  pub fits : (i : ℕ) → i < n → startAt s starts n i + size ≤ task .cells
-  pub all : (i : ℕ) → i < n → (c : ℕ) → startAt s starts n i ≤ c → c < startAt s starts n i + size → follows s (task .entry) b c ≡ true
-  pub least : (i : ℕ) → i < n → startAt s starts n i + size ≤ startAt s starts n (i + 1)
-  pub next : (i : ℕ) → i < n → startAt s starts n (i + 1) ≤ task .cells
-  pub none : (i : ℕ) → i < n → (c : ℕ) → startAt s starts n i + size ≤ c → c < startAt s starts n (i + 1) → follows s (task .entry) b c ≡ false
-
 -- before run i of box b, with m looked up before the first
 pub record AtRun (s : List ℕ) (task : Task) (count b : ℕ) (starts : List ℕ) (n size m i : ℕ) : Type 0 where
   pub place : AtCell s task count b (accepted (m + i * size)) (startAt s starts n i)
   pub inside : i ≤ n
-  pub list : BoxRuns s task b starts n size
+  pub list : BoxRuns s (task .entry) b starts n size
+  pub sized : length starts ≡ 4096
   pub task-is : IsTask s task
   pub box : b < task .boxes
 
@@ -116,7 +106,7 @@ runs {s} {task} {count} {b} {d} {last} {found} i lt most all =
     record { rest = rw none (i .rest); most = i .most; from = omega arith; to = omega arith; fits = most; all = all }
 
 -- the cells looked up with one more: m before the box, n in the runs before this one and x in this one
-pub one-more : (m n x : ℕ) → m + (n + x) + 1 ≡ m + n + x + 1
+pub one-more : (m n x : ℕ) → m + (n + x + 1) ≡ m + n + x + 1
 one-more m n x = omega arith
 
 module _ {s : List ℕ} {task : Task} (is : IsTask s task) {count b d last n : ℕ} where
@@ -164,39 +154,19 @@ module _ {s : List ℕ} {task : Task} (is : IsTask s task) {count b d last n : �
         }
 
 -- the first run of a box
-module _ {s : List ℕ} {task : Task} {b : ℕ} {first last : List ℕ} {k : ℕ} {starts : List ℕ} {n size : ℕ} (K : IsTask s task) (ranges : BoxRanges s (task .entry) b first last)
-    (all : RunsOf s first last k starts n) (size-is : size ≡ runSize s first last k) (sized : length starts ≡ 4096) where
-  run : (i : ℕ) → i < n → RunTo s first last (startAt s starts n i) (startAt s starts n i + size)
-  run i lt = rw size-is (all .run i lt)
-
-  next : (i : ℕ) → i < n → Sought s first last (startAt s starts n i + size) (startAt s starts n (i + 1))
-  next i lt = rw size-is (all .next i lt)
-
-  box-runs : BoxRuns s task b starts n size
-  box-runs =
-      record {
-        sized = sized;
-        most = omega (arith, all .most, K .cells-is);
-        some = λ lt. omega (arith, run 0 lt .least);
-        fits = λ i lt. omega (arith, run i lt .most, K .cells-is);
-        all = λ i lt c ge below. ranges .meet c ∙ run i lt .all c ge below;
-        least = λ i lt. next i lt .least;
-        next = λ i lt. omega (arith, next i lt .most, K .cells-is);
-        none = λ i lt c ge below. ranges .meet c ∙ next i lt .none c ge below;
-      }
-
-  pub first-run : {count : ℕ} {found : Report} → b < task .boxes → AtBox s task count found b → AtRun s task count b starts n size (found .count) 0
-  first-run {count} {found} lb at =
-      let q = all .start in
-      let none : found .count + 0 * size ≡ found .count = omega (arith, zero-mul size) in
-      let opened : AtCell s task count b found (startAt s starts n 0) = opens K lb (omega (arith, q .most, K .cells-is)) (λ c ge lt. ranges .meet c ∙ q .none c ge lt) at in
-      record {
-        place = rw none (record { rest = opened .rest; most = opened .most; inside = opened .inside; clear = refl });
-        inside = omega arith;
-        list = box-runs;
-        task-is = K;
-        box = lb;
-      }
+pub first-run : {s : List ℕ} {task : Task} {b : ℕ} {starts : List ℕ} {n size count : ℕ} {found : Report} → IsTask s task → b < task .boxes → length starts ≡ 4096
+    → BoxRuns s (task .entry) b starts n size → AtBox s task count found b → AtRun s task count b starts n size (found .count) 0
+first-run {s} {task} {b} {starts} {n} {size} {count} {found} K lb sized list at =
+    let none : found .count + 0 * size ≡ found .count = omega (arith, zero-mul size) in
+    let opened : AtCell s task count b found (startAt s starts n 0) = opens K lb (omega (arith, list .inside 0, K .cells-is)) (λ c ge lt. list .before c lt) at in
+    record {
+      place = rw none (record { rest = opened .rest; most = opened .most; inside = opened .inside; clear = refl });
+      inside = omega arith;
+      list = list;
+      sized = sized;
+      task-is = K;
+      box = lb;
+    }
 
 module _ {s : List ℕ} {task : Task} {count b : ℕ} {starts : List ℕ} {n size m i : ℕ} (at : AtRun s task count b starts n size m i) where
   -- the count before run i, and past the last
@@ -218,7 +188,7 @@ module _ {s : List ℕ} {task : Task} {count b : ℕ} {starts : List ℕ} {n siz
 
   module _ (lt : i < n) (d : ℕ) (d-is : d ≡ startAt s starts n i) where
     pub run-fits : d + size ≤ task .cells
-    run-fits = rw d-is (at .list .fits i lt)
+    run-fits = omega (arith, at .list .fits i lt, at .list .inside (i + 1), at .task-is .cells-is)
 
     -- run i begins, and ends
     pub run-begins : InRun s task count b d (d + size) (m + i * size) d
@@ -232,9 +202,10 @@ module _ {s : List ℕ} {task : Task} {count b : ℕ} {starts : List ℕ} {n siz
         let more : m + (i + 1) * size ≡ m + i * size + (d + size - d) = rw one (omega (arith, suc-mul i size)) in
         let ended : AtCell s task count b (accepted (m + (i + 1) * size)) (d + size) = ran (at .task-is) ge inside (ap (λ (x : ℕ). accepted x) more) in
         record {
-          place = skips (at .task-is) (omega (arith, at .list .least i lt)) (at .list .next i lt) (λ c ge below. at .list .none i lt c (omega arith) below) ended;
+          place = skips (at .task-is) (omega (arith, at .list .fits i lt)) (omega (arith, at .list .inside (i + 1), at .task-is .cells-is)) (λ c ge below. at .list .between i lt c (omega arith) below) ended;
           inside = omega arith;
           list = at .list;
+          sized = at .sized;
           task-is = at .task-is;
           box = at .box;
         }

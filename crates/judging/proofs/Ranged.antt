@@ -23,10 +23,11 @@ use Rattle.network.proofs.Screening.{sound-of}
 use Rattle.grid.specs.Cells.{intervalIn}
 use Rattle.grid.proofs.Numbers.{is-choice}
 use Rattle.grid.proofs.Edges.{upper-most, cell-lower-below-upper}
-use Rattle.grid.specs.Tables.{DigitsOf, RangesOf}
+use Rattle.grid.specs.Tables.{DigitsOf, RangesOf, RunsOf, inRanges}
+use Rattle.grid.proofs.Lists.{start-most}
 use Rattle.grid.proofs.Ranging.{successor-in-ranges}
 use Rattle.judging.specs.Judging.{isSafe, isRanked, standingFault, follows}
-use Rattle.judging.specs.Tables.{CellEdges, EntryEnds, EntryImage, BoxRanges}
+use Rattle.judging.specs.Tables.{CellEdges, EntryEnds, EntryImage, BoxRuns}
 
 -- the next queue of a link depends on the queues of the network's links alone
 module _ (s : List ℕ) (S : Screened s) (g : ℕ) (hg : g < signalsOf s) where
@@ -67,15 +68,23 @@ ends-are s S e byte g lower upper low high he C eg eb B =
     hg : signalOf s e < signalsOf s
     hg = S .readable .entry e he .signal
 
--- so the ranges that meet it tell the successors
-pub ranges-are : (s : List ℕ) → Screened s → (e b : ℕ) (from to first last : List ℕ) → EntryImage s e b from to
-    → RangesOf s from to first last → BoxRanges s e b first last
+-- so the cells in the ranges that meet it are the successors, and the runs of these cells are the runs of successors
+pub runs-are : (s : List ℕ) → Screened s → (e b : ℕ) (from to first last starts : List ℕ) (n size : ℕ) → EntryImage s e b from to
+    → RangesOf s from to first last → RunsOf s first last starts n size → BoxRuns s e b starts n size
 unfolding follows
-ranges-are s S e b from to first last I R =
+runs-are s S e b from to first last starts n size I R A =
     record {
-      bounded = R .bounded;
-      meet = successor-in-ranges s (S .readable) (signalOf s e) b (cellOf s e) from to first last (I .low-is) (I .high-is) R;
+      most = A .most;
+      some = λ lt. omega (arith, A .run 0 lt .least);
+      inside = start-most s starts n (λ i lt. omega (arith, A .run i lt .least, A .run i lt .most));
+      fits = λ i lt. A .next i lt .least;
+      all = λ i lt c ge below. meet c ∙ A .run i lt .all c ge below;
+      before = λ c below. meet c ∙ A .start .none c (omega arith) below;
+      between = λ i lt c ge below. meet c ∙ A .next i lt .none c ge below;
     }
+  where
+    meet : (c : ℕ) → follows s e b c ≡ inRanges s first last c
+    meet = successor-in-ranges s (S .readable) (signalOf s e) b (cellOf s e) from to first last (I .low-is) (I .high-is) R
 
 -- an interval that is read from the table of cells exists, and stands within the tables
 pub interval-exists : (s : List ℕ) → Readable s → (digits : List ℕ) → DigitsOf s digits → (c l : ℕ) → c < cellsOf s → l < linksOf s

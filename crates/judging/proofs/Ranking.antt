@@ -10,7 +10,7 @@ use Rattle.certificate.specs.declared.reading.Layout.{Layout}
 use Rattle.certificate.specs.Facts.{Readable}
 use Rattle.certificate.specs.Laid.{LaidOut}
 use Rattle.grid.specs.Tables.{Holds}
-use Rattle.judging.specs.Judging.{IsTask}
+use Rattle.judging.specs.Tables.{IsTask}
 use Rattle.judging.specs.Lookup.{entryFor, isListed, rankAt, RanksOf}
 
 -- the slot of cell d and mode m, whose entry was found as e

@@ -14,7 +14,8 @@ use Rattle.certificate.specs.Layout.{nextModeOf, rankOf}
 use Rattle.certificate.proofs.Tests.{need-pass, need-fail, or-next, or-stop}
 use Rattle.judging.specs.declared.Task.{Task}
 use Rattle.judging.specs.Lookup.{entryFor, isListed, rankAt, RanksOf}
-use Rattle.judging.specs.Judging.{isLower, successorFault, accepted, IsTask}
+use Rattle.judging.specs.Judging.{isLower, successorFault, accepted}
+use Rattle.judging.specs.Tables.{IsTask}
 
 -- a successor's refusal is known by its number
 module _ (s : List ℕ) (e d n : ℕ) where

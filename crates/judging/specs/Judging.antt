@@ -1,23 +1,16 @@
 -- When a certificate is accepted. Entries are judged in order; within one: safe, rank against goal, then arrival boxes
 -- ascending and successor cells ascending, each first for being listed, then for its rank. The count n goes along.
-use Prim.Native.Nat.{ℕ, _+_, _*_, _≤_, _<_}
+use Prim.Native.Nat.{ℕ, _+_}
 use mathlib.Core.List.{List}
 use mathlib.Core.Bool.{Bool, not, _||_, cond}
-use mathlib.Core.Path.{_≡_}
 use lib.Dec.{eqb, leb, ltb}
-use lib.ListN.{getD}
 use Rattle.certificate.specs.declared.Report.{Report}
 use Rattle.certificate.specs.Loops.{pick, every, from}
 use Rattle.certificate.specs.Checks.{result, fine, need, orElse}
-use Rattle.certificate.specs.Layout.{maxEntries, maxBoxes, maxCells, linksOf, modesOf, safeOf, goalOf, cellsOf, boxesOf, entriesOf, cellOf, signalOf, nextModeOf, rankOf}
+use Rattle.certificate.specs.Layout.{linksOf, safeOf, goalOf, cellsOf, boxesOf, entriesOf, cellOf, signalOf, nextModeOf, rankOf}
 use Rattle.grid.specs.Cells.{upperOf}
 use Rattle.grid.specs.Successors.{isSuccessor}
-use Rattle.judging.specs.declared.Task.{Task}
 use Rattle.judging.specs.Lookup.{entryFor, isListed}
-
--- a table of the upper edges of entry e's cell, one a link
-abbrev pub UpperEdges : List ℕ → ℕ → List ℕ → Type 0
-UpperEdges s e upper = (l : ℕ) → l < linksOf s → getD upper l 0 ≡ upperOf s (cellOf s e) l
 
 -- all upper edges of entry e's cell are at most safe
 unfoldable pub isSafe : List ℕ → ℕ → Bool
@@ -74,28 +67,3 @@ accepted n = result 0 0 0 n
 -- refusals 12 to 15, or accepted, from entry e on, where n successors were looked up before it
 unfoldable pub judgingFrom : List ℕ → ℕ → ℕ → Report
 judgingFrom s e n = from (entryTurn s) accepted (entriesOf s) e n
-
--- what the search for entry e finds from box b on, where n successors were looked up before: its first refusal, or accepted
-unfoldable pub boxesFrom : List ℕ → ℕ → ℕ → ℕ → Report
-boxesFrom s e b n = from (boxTurn s e) accepted (boxesOf s) b n
-
--- the same from cell d of box b on
-unfoldable pub cellsFrom : List ℕ → ℕ → ℕ → ℕ → ℕ → Report
-cellsFrom s e b d n = from (cellTurn s e b) (boxesFrom s e (b + 1)) (cellsOf s) d n
-
--- entry e judged alone: its first refusal, or accepted with the count after it
-unfoldable pub entryAlone : List ℕ → ℕ → ℕ → Report
-entryAlone s e n = entryTurn s e n accepted
-
--- the task of an entry: the numbers are those of the certificate and of the entry, and `row` is where the next mode's ranks stand
-pub record IsTask (s : List ℕ) (task : Task) : Type 0 where
-  pub boxes-is : task .boxes ≡ boxesOf s
-  pub boxes-most : task .boxes ≤ maxBoxes
-  pub cells-is : task .cells ≡ cellsOf s
-  pub cells-most : task .cells ≤ maxCells
-  pub entry-exists : task .entry < entriesOf s
-  pub entry-most : task .entry < maxEntries
-  pub next-exists : nextModeOf s (task .entry) < modesOf s
-  pub row-is : task .row ≡ nextModeOf s (task .entry) * cellsOf s
-  pub row-fits : task .row + task .cells ≤ 32768
-  pub rank-is : task .rank ≡ rankOf s (task .entry)

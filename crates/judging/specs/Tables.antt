@@ -1,10 +1,14 @@
--- What judging finds out once of a certificate, once of an entry, and once of an entry under an arrival box.
+-- What judging finds out once of a certificate, once of an entry, and once of an entry under an arrival box; and the parts of judging
+-- that single functions answer for.
 use Prim.Native.Nat.{ℕ, _+_, _*_, _/_, _%_, _≤_, _<_}
 use mathlib.Core.List.{List}
+use mathlib.Core.Bool.{true, false}
 use mathlib.Core.Path.{_≡_}
 use lib.ListN.{getD}
+use Rattle.certificate.specs.declared.Report.{Report}
 use Rattle.certificate.specs.Octets.{u16At}
-use Rattle.certificate.specs.Layout.{linksOf, boxesOf, capOf, arrivalAt, lowOf, highOf, cellOf, signalOf}
+use Rattle.certificate.specs.Loops.{from}
+use Rattle.certificate.specs.Layout.{maxEntries, maxBoxes, maxCells, linksOf, modesOf, capOf, cellsOf, boxesOf, arrivalAt, lowOf, highOf, entriesOf, cellOf, signalOf, nextModeOf, rankOf}
 use Rattle.network.specs.Network.{networkOf, limitOf}
 use Rattle.network.specs.Flow.{gross}
 use Rattle.network.specs.Image.{lowCorner, highCorner}
@@ -13,10 +17,10 @@ use Rattle.network.specs.Roads.{FirstTurns}
 use Rattle.grid.specs.Cells.{lowerOf, upperOf}
 use Rattle.grid.specs.Successors.{imageLow, imageHigh}
 use Rattle.grid.specs.Laws.{ImageOf}
-use Rattle.grid.specs.Tables.{Holds, EdgesOf, GridOf, Bounded, inRanges}
+use Rattle.grid.specs.Tables.{Holds, EdgesOf, GridOf, startAt}
 use Rattle.judging.specs.declared.LinkTables.{LinkTables}
-use Rattle.judging.specs.Lookup.{RanksOf}
-use Rattle.judging.specs.Judging.{follows}
+use Rattle.judging.specs.declared.Task.{Task}
+use Rattle.judging.specs.Judging.{follows, cellTurn, boxTurn, entryTurn, accepted}
 
 -- ten thousand times the cap of each link
 abbrev pub CapsOf : List ℕ → List ℕ → Type 0
@@ -31,14 +35,13 @@ pub record ArrivalsOf (s a : List ℕ) : Type 0 where
 unfoldable pub arrivalEntry : List ℕ → ℕ → ℕ
 arrivalEntry s k = 10000 * u16At s (arrivalAt s (k / 16) + (2 + 2 * (k % 16)))
 
--- the tables of a certificate that passes the tests before 12: those of its links, the ranks by mode and cell, the edges of the links'
--- intervals, and the arrivals of each box
-pub record TablesOf (s : List ℕ) (tables : LinkTables) (ranks edges arrivals : List ℕ) : Type 0 where
+-- the tables of a certificate that passes the tests before 12: those of its links, the edges of the links' intervals, and the arrivals
+-- of each box
+pub record TablesOf (s : List ℕ) (tables : LinkTables) (edges arrivals : List ℕ) : Type 0 where
   pub screened : Screened s
   pub grid : GridOf s (tables .counts) (tables .weights) (tables .links)
   pub cap : CapsOf s (tables .caps)
   pub turn : FirstTurns s (tables .«first_turns»)
-  pub ranked : RanksOf s ranks
   pub edge : EdgesOf s edges
   pub arrival : ArrivalsOf s arrivals
 
@@ -62,7 +65,41 @@ pub record EntryImage (s : List ℕ) (e b : ℕ) (low high : List ℕ) : Type 0 
   pub high-is : Holds (linksOf s) (imageHigh s (signalOf s e) b (cellOf s e)) high
   pub smallest : ImageOf s (signalOf s e) b (cellOf s e)
 
--- the ranges of intervals by which the successors of entry e under box b are known
-pub record BoxRanges (s : List ℕ) (e b : ℕ) (first last : List ℕ) : Type 0 where
-  pub bounded : Bounded s first last
-  pub meet : (d : ℕ) → follows s e b d ≡ inRanges s first last d
+-- the n runs of successors of entry e under box b: they start where the list says, ascending, all of that size, and no other cell follows
+pub record BoxRuns (s : List ℕ) (e b : ℕ) (starts : List ℕ) (n size : ℕ) : Type 0 where
+  pub most : n ≤ cellsOf s
+  pub some : 0 < n → 0 < size
+  pub inside : (i : ℕ) → startAt s starts n i ≤ cellsOf s
+  pub fits : (i : ℕ) → i < n → startAt s starts n i + size ≤ startAt s starts n (i + 1)
+  pub all : (i : ℕ) → i < n → (c : ℕ) → startAt s starts n i ≤ c → c < startAt s starts n i + size → follows s e b c ≡ true
+  pub before : (c : ℕ) → c < startAt s starts n 0 → follows s e b c ≡ false
+  pub between : (i : ℕ) → i < n → (c : ℕ) → startAt s starts n i + size ≤ c → c < startAt s starts n (i + 1) → follows s e b c ≡ false
+
+-- what the search for entry e finds from box b on, where n successors were looked up before: its first refusal, or accepted
+unfoldable pub boxesFrom : List ℕ → ℕ → ℕ → ℕ → Report
+boxesFrom s e b n = from (boxTurn s e) accepted (boxesOf s) b n
+
+-- the same from cell d of box b on
+unfoldable pub cellsFrom : List ℕ → ℕ → ℕ → ℕ → ℕ → Report
+cellsFrom s e b d n = from (cellTurn s e b) (boxesFrom s e (b + 1)) (cellsOf s) d n
+
+-- entry e judged alone: its first refusal, or accepted with the count after it
+unfoldable pub entryAlone : List ℕ → ℕ → ℕ → Report
+entryAlone s e n = entryTurn s e n accepted
+
+-- a table of the upper edges of entry e's cell, one a link
+abbrev pub UpperEdges : List ℕ → ℕ → List ℕ → Type 0
+UpperEdges s e upper = (l : ℕ) → l < linksOf s → getD upper l 0 ≡ upperOf s (cellOf s e) l
+
+-- the task of an entry: the numbers are those of the certificate and of the entry, and `row` is where the next mode's ranks stand
+pub record IsTask (s : List ℕ) (task : Task) : Type 0 where
+  pub boxes-is : task .boxes ≡ boxesOf s
+  pub boxes-most : task .boxes ≤ maxBoxes
+  pub cells-is : task .cells ≡ cellsOf s
+  pub cells-most : task .cells ≤ maxCells
+  pub entry-exists : task .entry < entriesOf s
+  pub entry-most : task .entry < maxEntries
+  pub next-exists : nextModeOf s (task .entry) < modesOf s
+  pub row-is : task .row ≡ nextModeOf s (task .entry) * cellsOf s
+  pub row-fits : task .row + task .cells ≤ 32768
+  pub rank-is : task .rank ≡ rankOf s (task .entry)

@@ -1,13 +1,14 @@
-// The ranges of intervals that meet an entry's image under one arrival box. `before` has the image's ends before arrivals.
+// The successors of an entry under one arrival box, as runs of cells. `before` has the ends of the entry's image before arrivals.
 ghost use mathlib.Core.Path.{_≡_};
 ghost use Prim.Native.Nat.{ℕ, _+_, _*_, _<_, _≤_, min};
-ghost use lib.ListN.{getD};
+ghost use lib.ListN.{getD, length};
 ghost use Rattle.certificate.specs.Layout.{linksOf, boxesOf, entriesOf};
 ghost use Rattle.network.specs.Laws.{Screened};
-ghost use Rattle.grid.specs.Tables.{EdgesOf, CountsOf};
-ghost use Rattle.judging.specs.Tables.{CapsOf, ArrivalsOf, EntryEnds, EntryImage, BoxRanges};
+ghost use Rattle.judging.specs.Tables.{CapsOf, ArrivalsOf, TablesOf, EntryEnds, EntryImage, BoxRuns, IsTask};
 use crate::LinkTables;
+use crate::Task;
 use grid::ranges;
+use grid::starts;
 use network::ends;
 
 // The low or the high ends with the arrivals of a box, which stand at every second place from `at` on: at most cap.
@@ -28,43 +29,64 @@ fn ends_under(
     r
 }
 
-// The image of entry e's cell under its signal and box b: the smallest closed box that holds all exact next queues.
-fn image_of(
+// The image of entry e's cell under its signal and box b: the smallest closed box that holds all exact next queues. `low` and `high`
+// are its ends before arrivals.
+fn image_of<'a>(
     s: &[u8],
-    tables: LinkTables,
+    links: usize,
+    caps: &[usize; 8],
     arrivals: &[usize; 128],
-    before: ends::Ends,
+    low: &'a [usize; 8],
+    high: &'a [usize; 8],
     e: usize,
     b: usize,
 ) -> ends::Ends
-    requires { ⌜ Screened (now s) × (tables .links ≡ linksOf (now s)) × CapsOf (now s) (tables .caps) × ArrivalsOf (now s) (now arrivals) × EntryEnds (now s) e (before .low) (before .high) × (e < entriesOf (now s)) × (b < boxesOf (now s)) ⌝ }
+    requires { ⌜ Screened (now s) × (links ≡ linksOf (now s)) × CapsOf (now s) (now caps) × ArrivalsOf (now s) (now arrivals) × EntryEnds (now s) e (now low) (now high) × (e < entriesOf (now s)) × (b < boxesOf (now s)) ⌝ }
     ensures { λ r. ⌜ EntryImage (now (s .entry)) e b (r .low) (r .high) ⌝ }
 {
-    let low = ends_under(tables.links, &tables.caps, &before.low, arrivals, 16 * b);
-    let high = ends_under(
-        tables.links,
-        &tables.caps,
-        &before.high,
-        arrivals,
-        16 * b + 1,
-    );
-    ends::Ends { low, high }
+    let from = ends_under(links, caps, low, arrivals, 16 * b);
+    let to = ends_under(links, caps, high, arrivals, 16 * b + 1);
+    ends::Ends {
+        low: from,
+        high: to,
+    }
 }
 
-pub fn box_ranges(
+// The runs of successors of an entry under box b: `runs` is filled with their starts.
+pub fn box_runs(
     s: &[u8],
+    task: Task,
     tables: LinkTables,
     edges: &[usize; 128],
     arrivals: &[usize; 128],
     before: ends::Ends,
-    e: usize,
     b: usize,
-) -> ranges::Ranges
-    requires { ⌜ Screened (now s) × (tables .links ≡ linksOf (now s)) × CountsOf (now s) (tables .counts) × CapsOf (now s) (tables .caps) × EdgesOf (now s) (now edges) × ArrivalsOf (now s) (now arrivals) × EntryEnds (now s) e (before .low) (before .high) × (e < entriesOf (now s)) × (b < boxesOf (now s)) ⌝ }
-    ensures { λ r. ⌜ BoxRanges (now (s .entry)) e b (r .first) (r .last) ⌝ }
+    runs: &mut [u16],
+) -> starts::Runs
+    requires { ⌜ TablesOf (now s) tables (now edges) (now arrivals) × IsTask (now s) task × EntryEnds (now s) (task .entry) (before .low) (before .high) × (b < task .boxes) × (length (now runs) ≡ 4096) ⌝ }
+    ensures { λ r. ⌜ (length (now (runs .exit)) ≡ 4096) × BoxRuns (now (s .entry)) (task .entry) b (now (runs .exit)) (r .count) (r .size) ⌝ }
 {
-    let image = image_of(s, tables, arrivals, before, e, b);
-    let from = image.low;
-    let to = image.high;
-    ranges::ranges_of(s, edges, &tables.counts, tables.links, &from, &to)
+    let links = tables.links;
+    let e = task.entry;
+    let image = image_of(
+        s,
+        links,
+        &tables.caps,
+        arrivals,
+        &before.low,
+        &before.high,
+        e,
+        b,
+    );
+    let r = ranges::ranges_of(s, edges, &tables.counts, links, &image.low, &image.high);
+    starts::runs_of(
+        s,
+        &tables.counts,
+        &tables.weights,
+        &r.first,
+        &r.last,
+        links,
+        task.cells,
+        runs,
+    )
 }

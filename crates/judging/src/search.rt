@@ -1,17 +1,15 @@
 // The search through an entry's successors.
 ghost use mathlib.Core.Path.{_≡_};
-ghost use Prim.Native.Nat.{_+_, _*_, _-_, _<_, _≤_};
+ghost use Prim.Native.Nat.{_+_, _*_, _<_, _≤_};
 ghost use lib.ListN.{length};
 ghost use Rattle.judging.specs.Lookup.{RanksOf};
-ghost use Rattle.judging.specs.Judging.{successorFault, boxesFrom, IsTask};
-ghost use Rattle.judging.specs.Tables.{TablesOf, EntryEnds};
+ghost use Rattle.judging.specs.Judging.{successorFault};
+ghost use Rattle.judging.specs.Tables.{TablesOf, EntryEnds, boxesFrom, IsTask};
 use crate::LinkTables;
 use crate::Task;
 use crate::boxes;
 use crate::standing;
 use certificate::Report;
-use grid::seek;
-use grid::starts;
 use network::ends;
 
 fn wide(x: u32) -> usize
@@ -26,12 +24,12 @@ fn wide_cell(x: u16) -> usize
     x as usize
 }
 
-// The number of the refusal of the successor that slot `at` of the table of ranks is for: 14 where it is not listed with the next
-// mode, 15 where its rank is not lower, else 0.
-fn successor_number(s: &[u8], task: Task, ranks: &[u32; 32768], at: usize) -> u8
-    requires { ⌜ IsTask (now s) task × RanksOf (now s) (now ranks) × (task .row ≤ at) × (at < task .row + task .cells) ⌝ }
-    ensures { λ r. ⌜ r ≡ successorFault (now (s .entry)) (task .entry) (at - task .row) 0 .number ⌝ }
+// The number of the refusal of successor d: 14 where it is not listed with the next mode, 15 where its rank is not lower, else 0.
+fn successor_number(s: &[u8], task: Task, ranks: &[u32; 32768], d: usize) -> u8
+    requires { ⌜ IsTask (now s) task × RanksOf (now s) (now ranks) × (d < task .cells) ⌝ }
+    ensures { λ r. ⌜ r ≡ successorFault (now (s .entry)) (task .entry) d 0 .number ⌝ }
 {
+    let at = task.row + d;
     let v = wide(ranks[at]);
     if v == 0 {
         return 14;
@@ -56,51 +54,27 @@ pub fn search_boxes(
     before: ends::Ends,
     count: u32,
 ) -> Report
-    requires { ⌜ TablesOf (now s) tables (now ranks) (now edges) (now arrivals) × IsTask (now s) task × EntryEnds (now s) (task .entry) (before .low) (before .high) × (count ≤ 32768 * task .entry) × (length (now runs) ≡ 4096) ⌝ }
+    requires { ⌜ TablesOf (now s) tables (now edges) (now arrivals) × RanksOf (now s) (now ranks) × IsTask (now s) task × EntryEnds (now s) (task .entry) (before .low) (before .high) × (count ≤ 32768 * task .entry) × (length (now runs) ≡ 4096) ⌝ }
     ensures { λ r. ⌜ (r ≡ boxesFrom (now (s .entry)) (task .entry) 0 count) × (r .count ≤ 32768 * (task .entry + 1)) × (length (now (runs .exit)) ≡ 4096) ⌝ }
 {
-    let weights = tables.weights;
     let mut found = standing::report(0, 0, 0, count);
     'search: for b in 0..task.boxes {
-        let r = boxes::box_ranges(s, tables, edges, arrivals, before, task.entry, b);
-        let k = seek::run_link(s, &tables.counts, &r.first, &r.last, tables.links);
-        let n = starts::fill_starts(
-            s,
-            &tables.counts,
-            &weights,
-            &r.first,
-            &r.last,
-            tables.links,
-            task.cells,
-            k,
-            runs,
-        );
-        let size = seek::run_size(
-            s,
-            &tables.counts,
-            &weights,
-            &r.first,
-            &r.last,
-            tables.links,
-            k,
-        );
+        let r = boxes::box_runs(s, task, tables, edges, arrivals, before, b, runs);
+        let n = r.count;
+        let size = r.size;
         let mut i = 0;
         while i < n {
-            let d = wide_cell(runs[i]);
-            let mut at = task.row + d;
-            let stop = at + size;
-            while at < stop {
-                let number = successor_number(s, task, ranks, at);
+            let first = wide_cell(runs[i]);
+            let end = first + size;
+            let mut d = first;
+            while d < end {
+                let number = successor_number(s, task, ranks, d);
                 if number != 0 {
-                    found = standing::report(
-                        number,
-                        task.entry,
-                        at - task.row,
-                        found.count + (i * size + (at - task.row - d)) as u32 + 1,
-                    );
+                    let looked = i * size + (d - first) + 1;
+                    found = standing::report(number, task.entry, d, found.count + looked as u32);
                     break 'search;
                 }
-                at += 1;
+                d += 1;
             }
             i += 1;
         }

@@ -3,7 +3,8 @@ ghost use mathlib.Core.Path.{_≡_};
 ghost use Prim.Native.Nat.{_≤_};
 ghost use Rattle.certificate.specs.Checks.{result};
 ghost use Rattle.certificate.specs.Layout.{linksOf, rankOf};
-ghost use Rattle.judging.specs.Judging.{isSafe, isGoal, isRanked, standingFault, UpperEdges};
+ghost use Rattle.judging.specs.Judging.{isSafe, isGoal, isRanked, standingFault};
+ghost use Rattle.judging.specs.Tables.{UpperEdges};
 use certificate::Report;
 use certificate::links;
 

@@ -9,8 +9,8 @@ ghost use Rattle.network.specs.Laws.{Screened};
 ghost use Rattle.network.specs.Roads.{FirstTurns};
 ghost use Rattle.grid.specs.Tables.{GridOf, DigitsOf};
 ghost use Rattle.judging.specs.Lookup.{RanksOf};
-ghost use Rattle.judging.specs.Judging.{entryAlone, judgingFrom};
-ghost use Rattle.judging.specs.Tables.{CapsOf, TablesOf};
+ghost use Rattle.judging.specs.Judging.{judgingFrom};
+ghost use Rattle.judging.specs.Tables.{CapsOf, TablesOf, entryAlone};
 ghost use Rattle.judging.specs.Verdict.{verdictOf};
 use crate::LinkTables;
 use crate::amounts;
@@ -40,7 +40,7 @@ fn judge_entry(
     e: usize,
     count: u32,
 ) -> Report
-    requires { ⌜ LaidOut (now s) layout × TablesOf (now s) tables (now ranks) (now edges) (now arrivals) × (e < entriesOf (now s)) × (count ≤ 32768 * e) × DigitsOf (now s) (now digits) × (length (now runs) ≡ 4096) ⌝ }
+    requires { ⌜ LaidOut (now s) layout × TablesOf (now s) tables (now edges) (now arrivals) × RanksOf (now s) (now ranks) × (e < entriesOf (now s)) × (count ≤ 32768 * e) × DigitsOf (now s) (now digits) × (length (now runs) ≡ 4096) ⌝ }
     ensures { λ r. ⌜ (r ≡ entryAlone (now (s .entry)) e count) × (r .count ≤ 32768 * (e + 1)) × (length (now (runs .exit)) ≡ 4096) ⌝ }
 {
     let task = entry::task_of(s, layout, e);
@@ -67,7 +67,7 @@ fn judge_entries(
     arrivals: &[usize; 128],
     runs: &mut [u16],
 ) -> Report
-    requires { ⌜ LaidOut (now s) layout × TablesOf (now s) tables (now ranks) (now edges) (now arrivals) × DigitsOf (now s) (now digits) × (length (now runs) ≡ 4096) ⌝ }
+    requires { ⌜ LaidOut (now s) layout × TablesOf (now s) tables (now edges) (now arrivals) × RanksOf (now s) (now ranks) × DigitsOf (now s) (now digits) × (length (now runs) ≡ 4096) ⌝ }
     ensures { λ r. ⌜ r ≡ judgingFrom (now (s .entry)) 0 0 ⌝ }
 {
     let entries = layout.entries;

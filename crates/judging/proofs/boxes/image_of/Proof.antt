@@ -9,7 +9,7 @@ mul-ends-under : tie.Need-mul-ends-under
 mul-ends-under c = search needs
 
 ends-under-requires : tie.Need-ends-under-requires
-ends-under-requires c κs = let p = c .before .before .before .before .before .pre in
+ends-under-requires c κs = let p = c .before .pre in
     let R = p .0 .readable in (
       omega (arith, p .1, R .header .links-most),
       omega (arith, p .6, R .header .boxes-most),
@@ -23,7 +23,7 @@ add-ends-under : tie.Need-add-ends-under
 add-ends-under c = search needs
 
 ends-under-requires-2 : tie.Need-ends-under-requires-2
-ends-under-requires-2 c κs = let p = c .before .before .before .before .before .before .before .before .before .before .pre in
+ends-under-requires-2 c κs = let p = c .before .before .pre in
     let R = p .0 .readable in (
       omega (arith, p .1, R .header .links-most),
       omega (arith, p .6, R .header .boxes-most),
@@ -31,9 +31,9 @@ ends-under-requires-2 c κs = let p = c .before .before .before .before .before 
     )
 
 returns : tie.Need-returns
-returns c = let a = c .before .before .before .before .before .before .before .before .before .before .before in
+returns c = let a = c .before .before .before in
     let p = a .pre in
-    image-is _ (p .0) _ _ _ _ _ _ _ (a .args .t2 .caps) _ (p .1) (p .2) (p .3) (p .4) (p .5) (p .6) (c .before .before .before .before .before .ends-under .ensures) (c .ends-under2 .ensures)
+    image-is _ (p .0) _ _ _ (a .args .low .now) (a .args .high .now) _ _ (a .args .caps .now) (a .args .arrivals .now) (p .1) (p .2) (p .3) (p .4) (p .5) (p .6) (c .before .ends-under .ensures) (c .ends-under2 .ensures)
 
 pub image-of-spec : {M : Type 1} → statement M
 image-of-spec =

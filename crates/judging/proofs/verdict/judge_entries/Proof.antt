@@ -17,15 +17,15 @@ abbrev μ-loop : tie.MeasureT-loop
 μ-loop s layout tables ranks digits edges arrivals starts₀ entries count₀ e₀ starts count e = entries - e
 
 loop-holds : tie.Need-loop-holds Inv-loop μ-loop
-loop-holds c = (refl, omega arith, c .before .before .pre .0 .entries-are, c .before .before .pre .0 .entries-most, c .before .before .pre .3)
+loop-holds c = (refl, omega arith, c .before .before .pre .0 .entries-are, c .before .before .pre .0 .entries-most, c .before .before .pre .4)
 
 judge-entry-requires : tie.Need-judge-entry-requires Inv-loop μ-loop
 judge-entry-requires c κs = let w = c .before .before .loop .inv in
     let p = c .before .before .before .before .before .pre in
-    (p .0, p .1, omega (arith, c .before .loop-test .taken, w .2), w .1, p .2, w .4)
+    (p .0, p .1, p .2, omega (arith, c .before .loop-test .taken, w .2), w .1, p .3, w .4)
 
 same-length : tie.Need-same-length Inv-loop μ-loop
-same-length c = omega (arith, c .before .before .before .before .judge-entry .ensures .2, c .before .before .before .before .before .before .before .before .before .before .pre .3)
+same-length c = omega (arith, c .before .before .before .before .judge-entry .ensures .2, c .before .before .before .before .before .before .before .before .before .before .pre .4)
 
 returns : tie.Need-returns Inv-loop μ-loop
 returns c = let w = c .before .before .before .before .before .before .before .loop .inv in
@@ -46,7 +46,7 @@ report-requires : tie.Need-report-requires Inv-loop μ-loop
 report-requires c κs = search needs
 
 same-length-2 : tie.Need-same-length-2 Inv-loop μ-loop
-same-length-2 c = omega (arith, c .before .before .loop .inv .4, c .before .before .before .before .before .pre .3)
+same-length-2 c = omega (arith, c .before .before .loop .inv .4, c .before .before .before .before .before .pre .4)
 
 returns-2 : tie.Need-returns-2 Inv-loop μ-loop
 returns-2 c = let w = c .before .before .loop .inv in

@@ -16,7 +16,7 @@ cell-edges-requires : tie.Need-cell-edges-requires
 cell-edges-requires c κs = let p = c .before .before .before .before .pre in
     let T = p .1 in
     let R = T .screened .readable in
-    (R, p .4, T .edge, T .grid .link, rw (c .cell-of .ensures .0) (R .entry _ (p .2) .cell))
+    (R, p .5, T .edge, T .grid .link, rw (c .cell-of .ensures .0) (R .entry _ (p .3) .cell))
 
 check-standing-requires : tie.Need-check-standing-requires
 check-standing-requires c κs = let p = c .before .before .before .before .before .before .before .before .pre in
@@ -25,27 +25,27 @@ check-standing-requires c κs = let p = c .before .before .before .before .befor
     let R = T .screened .readable in (
       omega (arith, T .grid .link, R .header .links-most),
       T .grid .link,
-      omega (arith, p .2, R .header .entries-most),
+      omega (arith, p .3, R .header .entries-most),
       rw (K .1) at (K .0 .rank-is),
       (rw (c .before .before .before .before .cell-of .ensures .0) at (c .before .before .before .cell-edges .ensures)) .upper-is,
     )
 
 returns : tie.Need-returns
 returns c = let f = c .before .before .check-standing in
-    (not-standing _ _ _ _ (f .ensures) (c .if1 .taken), omega (arith, standing-count _ _ _ _ (f .ensures), c .before .before .before .before .before .before .before .before .before .before .before .pre .3), c .before .before .before .before .before .before .before .before .before .before .before .pre .5)
+    (not-standing _ _ _ _ (f .ensures) (c .if1 .taken), omega (arith, standing-count _ _ _ _ (f .ensures), c .before .before .before .before .before .before .before .before .before .before .before .pre .4), c .before .before .before .before .before .before .before .before .before .before .before .pre .6)
 
 entry-ends-requires : tie.Need-entry-ends-requires
 entry-ends-requires c κs = let p = c .before .before .before .before .before .before .before .before .before .before .before .before .before .before .before .pre in
     let T = p .1 in
-    (T .screened, p .0, T .turn, p .2, rw (c .before .before .before .before .before .before .before .before .before .before .before .cell-of .ensures .0) at (c .before .before .before .before .before .before .before .before .before .before .cell-edges .ensures))
+    (T .screened, p .0, T .turn, p .3, rw (c .before .before .before .before .before .before .before .before .before .before .before .cell-of .ensures .0) at (c .before .before .before .before .before .before .before .before .before .before .cell-edges .ensures))
 
 search-boxes-requires : tie.Need-search-boxes-requires
 search-boxes-requires c κs = let p = c .before .before .before .before .before .before .before .before .before .before .before .before .before .before .before .before .before .pre in
     let K = c .before .before .before .before .before .before .before .before .before .before .before .before .before .before .task-of .ensures in
-    (p .1, K .0, rw (K .1) (c .before .entry-ends .ensures), rw (K .1) (p .3), p .5)
+    (p .1, p .2, K .0, rw (K .1) (c .before .entry-ends .ensures), rw (K .1) (p .4), p .6)
 
 same-length : tie.Need-same-length
-same-length c = omega (arith, c .before .before .search-boxes .ensures .2, c .before .before .before .before .before .before .before .before .before .before .before .before .before .before .before .before .before .before .before .before .pre .5)
+same-length c = omega (arith, c .before .before .search-boxes .ensures .2, c .before .before .before .before .before .before .before .before .before .before .before .before .before .before .before .before .before .before .before .before .pre .6)
 
 returns-2 : tie.Need-returns-2
 returns-2 c = let K = c .before .before .before .before .before .before .before .before .before .before .before .before .before .before .before .before .before .task-of .ensures in
