@@ -6,10 +6,10 @@ use mathlib.Core.Path.{_≡_, refl, sym, ap, _∙_}
 use mathlib.Core.Logic.{_⊎_, inl, inr, ⊎-elim}
 use native.Mathlib.Nat.{le-refl}
 use native.Mathlib.Omega.{arith}
-use borrow.Author.Tests.{leb-true, ltb-true, ltb-false, lt-ltb, le-ltb, le-leb, lt-leb}
+use borrow.Author.Tests.{leb-true, leb-false, ltb-true, ltb-false, lt-ltb, le-ltb, le-leb, lt-leb}
 use lib.ListN.{getD}
 use lib.Dec.{leb, ltb}
-use Rattle.certificate.specs.Loops.{every}
+use Rattle.certificate.specs.Loops.{pick, every}
 use Rattle.certificate.specs.Records.{cutBefore}
 use Rattle.certificate.specs.Layout.{linksOf, capOf, intervalsOf, cutOf}
 use Rattle.certificate.specs.Facts.{Readable}
@@ -28,15 +28,6 @@ below-or a b = go (ltb a b) refl
     go true e = inl (ltb-true _ _ e)
     go false e = inr (ltb-false _ _ e)
 
--- a test that fails before r and holds from r on, and one that holds up to r and fails after it
-turns-true : (f : ℕ → Bool) (n r : ℕ) → ((i : ℕ) → i < r → f i ≡ false) → ((i : ℕ) → r ≤ i → i < n → f i ≡ true) → (i : ℕ) → i < n → leb r i ≡ f i
-turns-true f n r out within i h =
-    ⊎-elim (λ a. lt-leb r i a ∙ sym (out i a)) (λ b. le-leb r i b ∙ sym (within i b h)) (below-or i r)
-
-turns-false : (f : ℕ → Bool) (n r : ℕ) → ((i : ℕ) → i ≤ r → f i ≡ true) → ((i : ℕ) → r < i → i < n → f i ≡ false) → (i : ℕ) → i < n → leb i r ≡ f i
-turns-false f n r within out i h =
-    ⊎-elim (λ a. lt-leb i r a ∙ sym (out i a h)) (λ b. le-leb i r b ∙ sym (within i b)) (below-or r i)
-
 module _ (s : List ℕ) (l : ℕ) where
   -- the test against the low end
   low-inner : (i low : ℕ) → i + 1 < intervalsOf s l → lowMeets s l i low ≡ ltb low (10000 * upperEdge s l i)
@@ -47,29 +38,13 @@ module _ (s : List ℕ) (l : ℕ) where
   unfolding lowMeets
   low-last i low outer = rw (le-ltb (i + 1) (intervalsOf s l) outer, upper-last s l i outer)
 
-  -- the same by an edge e that the code has
-  pub low-yes : (i low e : ℕ) → i + 1 < intervalsOf s l → e ≡ 10000 * upperEdge s l i → low < e → lowMeets s l i low ≡ true
-  low-yes i low e inner q h = rw (low-inner i low inner, ← q) (lt-ltb low e h)
+  -- r is how many of the first i upper edges are at most `end`: they ascend, so those from r on are above it
+  pub record Passed (end r i : ℕ) : Type 0 where
+    pub most : r ≤ i
+    pub from : (k : ℕ) → k < i → leb r k ≡ ltb end (10000 * upperEdge s l k)
 
-  pub low-no : (i low e : ℕ) → i + 1 < intervalsOf s l → e ≡ 10000 * upperEdge s l i → e ≤ low → lowMeets s l i low ≡ false
-  low-no i low e inner q h = rw (low-inner i low inner, ← q) (le-ltb low e h)
-
-  pub cap-yes : (i low e : ℕ) → intervalsOf s l ≤ i + 1 → e ≡ 10000 * upperEdge s l i → low ≤ e → lowMeets s l i low ≡ true
-  cap-yes i low e outer q h = rw (low-last i low outer, ← q) (le-leb low e h)
-
-  pub cap-no : (i low e : ℕ) → intervalsOf s l ≤ i + 1 → e ≡ 10000 * upperEdge s l i → e < low → lowMeets s l i low ≡ false
-  cap-no i low e outer q h = rw (low-last i low outer, ← q) (lt-leb low e h)
-
-  -- every interval before r lies below the low end; every one up to r lies no higher than the high end
-  abbrev pub Below : ℕ → ℕ → Type 0
-  Below low r = (i : ℕ) → i < r → lowMeets s l i low ≡ false
-
-  abbrev pub UpTo : ℕ → ℕ → Type 0
-  UpTo high r = (i : ℕ) → i ≤ r → leb (10000 * lowerEdge s l i) high ≡ true
-
-  pub first-none : (r low : ℕ) → r ≡ intervalsOf s l → Below low r → IsFirst s l low r
-  first-none r low e below =
-      record { most = omega arith; from = turns-true _ (intervalsOf s l) r below (λ i a b. absurd (omega arith)) }
+  pub passed-none : (end : ℕ) → Passed end 0 0
+  passed-none end = record { most = omega arith; from = λ k lt. absurd (omega arith) }
 
   module _ (R : Readable s) (lt : l < linksOf s) where
     uppers-ascend : (i j : ℕ) → i ≤ j → upperEdge s l i ≤ upperEdge s l j
@@ -79,58 +54,74 @@ module _ (s : List ℕ) (l : ℕ) where
         (λ outer. rw (upper-last s l j outer) (upper-most s R l lt i))
         (below-or (j + 1) (intervalsOf s l))
 
-    upper-next : (i : ℕ) → i + 1 < intervalsOf s l → upperEdge s l i ≡ lowerEdge s l (suc i)
-    unfolding cutBefore
-    upper-next i inner = upper-inner s l i inner
+    -- one edge e more
+    module _ (end r i e : ℕ) (e-is : e ≡ 10000 * upperEdge s l i) (P : Passed end r i) where
+      -- if it is at most the end, so are all before it
+      all-passed : e ≤ end → r ≡ i
+      all-passed le = ⊎-elim (λ b. absurd (omega (arith, above b, uppers-ascend r i (P .most)))) (λ a. omega (arith, P .most)) (below-or r i)
+        where
+          above : r < i → end < 10000 * upperEdge s l r
+          above b = ltb-true _ _ (sym (P .from r b) ∙ le-leb r r (omega arith))
 
-    lowers-ascend : (i j : ℕ) → i ≤ j → j < intervalsOf s l → lowerEdge s l i ≤ lowerEdge s l j
-    unfolding cutBefore
-    lowers-ascend zero j le h = omega arith
-    lowers-ascend (suc i) zero le h = absurd (omega arith)
-    lowers-ascend (suc i) (suc j) le h = cuts-ascend s R l lt i j (omega arith) (omega arith)
+      pub passed-more : (v : ℕ) → v ≡ pick (leb e end) (r + 1) r → Passed end v (i + 1)
+      passed-more v q = go (leb e end) refl q
+        where
+          go : (t : Bool) → leb e end ≡ t → v ≡ pick t (r + 1) r → Passed end v (i + 1)
+          go true h w =
+              let le = leb-true e end h in
+              let all : v ≡ i + 1 = omega (arith, all-passed le, w) in
+              record {
+                most = omega arith;
+                from = λ k b. lt-leb v k (omega arith) ∙ sym (le-ltb end _ (omega (arith, uppers-ascend k i (omega arith))));
+              }
+          go false h w =
+              let gt = leb-false e end h in
+              record {
+                most = omega (arith, P .most);
+                from = λ k b. ⊎-elim
+                    (λ before. rw w (P .from k before))
+                    (λ (here : i ≤ k). let same : k ≡ i = omega arith in le-leb v k (omega (arith, P .most)) ∙ sym (lt-ltb end _ (rw same (omega arith))))
+                    (below-or k i);
+              }
 
-    low-rises : (i j low : ℕ) → i ≤ j → lowMeets s l i low ≡ true → lowMeets s l j low ≡ true
-    low-rises i j low le e =
-        let up = uppers-ascend i j le in
-        ⊎-elim
-        (λ inner. low-yes j low _ inner refl (omega (arith, below (omega arith))))
-        (λ outer. cap-yes j low _ outer refl (omega (arith, at-most)))
-        (below-or (j + 1) (intervalsOf s l))
-      where
-        below : i + 1 < intervalsOf s l → low < 10000 * upperEdge s l i
-        below inner = ltb-true _ _ (sym (low-inner i low inner) ∙ e)
+    -- past the inner edges: e is the upper edge of the last interval
+    module _ (end r inner e : ℕ) (all : inner + 1 ≡ intervalsOf s l) (e-is : e ≡ 10000 * upperEdge s l inner) (P : Passed end r inner) where
+      pub first-inside : end ≤ e → IsFirst s l end r
+      first-inside le =
+          record {
+            most = omega (arith, P .most);
+            from = λ k b. ⊎-elim
+                (λ h. P .from k h ∙ sym (low-inner k end (omega arith)))
+                (λ (h : inner ≤ k). let same : k ≡ inner = omega arith in
+                    le-leb r k (omega (arith, P .most)) ∙ sym (low-last k end (omega arith) ∙ le-leb end _ (rw same (omega arith))))
+                (below-or k inner);
+          }
 
-        at-most : low ≤ 10000 * upperEdge s l i
-        at-most =
-            ⊎-elim (λ inner. omega (arith, below inner)) (λ outer. leb-true _ _ (sym (low-last i low outer) ∙ e)) (below-or (i + 1) (intervalsOf s l))
+      pub first-beyond : (v : ℕ) → v ≡ intervalsOf s l → e < end → IsFirst s l end v
+      first-beyond v v-is lt =
+          record {
+            most = omega arith;
+            from = λ k b. lt-leb v k (omega arith) ∙ sym (below k (omega (arith, uppers-ascend k inner (omega arith))));
+          }
+        where
+          below : (k : ℕ) → 10000 * upperEdge s l k < end → lowMeets s l k end ≡ false
+          below k h =
+              ⊎-elim (λ a. low-inner k end a ∙ le-ltb end _ (omega arith)) (λ a. low-last k end a ∙ lt-leb end _ h) (below-or (k + 1) (intervalsOf s l))
 
-    pub first-here : (r low : ℕ) → r < intervalsOf s l → Below low r → lowMeets s l r low ≡ true → IsFirst s l low r
-    first-here r low h below here =
-        record { most = omega arith; from = turns-true _ (intervalsOf s l) r below (λ i a b. low-rises r i low a here) }
+      pub last-inside : IsLast s l end r
+      unfolding cutBefore
+      last-inside = record { most = omega (arith, P .most); to = go }
+        where
+          swap : (k edge : ℕ) → leb r k ≡ ltb end edge → leb (suc k) r ≡ leb edge end
+          swap k edge h =
+              ⊎-elim
+              (λ a. lt-leb (suc k) r (omega arith) ∙ sym (lt-leb edge end (ltb-true _ _ (sym h ∙ le-leb r k (omega arith)))))
+              (λ a. le-leb (suc k) r (omega arith) ∙ sym (le-leb edge end (ltb-false _ _ (sym h ∙ lt-leb r k (omega arith)))))
+              (below-or r (suc k))
 
-    -- the last interval, or one whose upper edge e, the lower edge of the next, is above the high end
-    pub last-end : (r high : ℕ) → r + 1 ≡ intervalsOf s l → UpTo high r → IsLast s l high r
-    last-end r high e up =
-        record { most = omega arith; to = turns-false _ (intervalsOf s l) r up (λ i a b. absurd (omega arith)) }
-
-    pub last-here : (r high e : ℕ) → r + 1 < intervalsOf s l → e ≡ 10000 * upperEdge s l r → high < e → UpTo high r → IsLast s l high r
-    last-here r high e inner q h up =
-        record {
-          most = omega arith;
-          to = turns-false _ (intervalsOf s l) r up (λ i a b. lt-leb (10000 * lowerEdge s l i) high (omega (arith, lowers-ascend (suc r) i a b, upper-next r inner)));
-        }
-
-    -- one interval more that is not above the high end
-    pub up-more : (i high e : ℕ) → i + 1 < intervalsOf s l → e ≡ 10000 * upperEdge s l i → e ≤ high → UpTo high i → UpTo high (i + 1)
-    up-more i high e inner q h up j le =
-        ⊎-elim (λ b. up j (omega arith)) (λ a. rw (same a, ← upper-next i inner, ← q) (le-leb e high h)) (below-or j (i + 1))
-      where
-        same : i + 1 ≤ j → j ≡ suc i
-        same a = omega arith
-
-  pub up-none : (high : ℕ) → UpTo high 0
-  unfolding cutBefore
-  up-none high i le = let z : i ≡ 0 = omega arith in rw z (le-leb (10000 * 0) high (omega arith))
+          go : (k : ℕ) → k < intervalsOf s l → leb k r ≡ leb (10000 * lowerEdge s l k) end
+          go zero b = le-leb 0 r (omega arith) ∙ sym (le-leb (10000 * 0) end (omega arith))
+          go (suc k) b = rw (← upper-inner s l k (omega arith)) (swap k _ (P .from k (omega arith)))
 
 -- the two tests together
 and-swap : (a b : Bool) → (a && b) ≡ (b && a)

@@ -10,7 +10,7 @@ use Rattle.certificate.specs.declared.reading.Layout.{Layout}
 use Rattle.certificate.specs.Facts.{Readable}
 use Rattle.certificate.specs.Laid.{LaidOut}
 use Rattle.grid.specs.Tables.{Holds}
-use Rattle.judging.specs.Tables.{IsTask}
+use Rattle.judging.specs.Tables.{limitFor, IsTask}
 use Rattle.judging.specs.Lookup.{entryFor, isListed, rankAt, RanksOf}
 
 -- the slot of cell d and mode m, whose entry was found as e
@@ -48,9 +48,9 @@ pub row-fits : (m modes cells : ℕ) → m < modes → modes ≤ 8 → cells ≤
 row-fits m modes cells h few most = omega (arith, rw suc-mul at (table-fits (suc m) cells (omega arith) most))
 
 -- the numbers of an entry's task
-pub is-task : (s : List ℕ) (layout : Layout) (e next rank : ℕ) → Readable s → LaidOut s layout → e < entriesOf s → next ≡ nextModeOf s e → rank ≡ rankOf s e
-    → IsTask s (record { boxes = layout .boxes; cells = layout .cells; entry = e; row = next * layout .cells; rank = rank })
-is-task s layout e next rank R Y he q p =
+pub is-task : (s : List ℕ) (layout : Layout) (e next rank limit : ℕ) → Readable s → LaidOut s layout → e < entriesOf s → next ≡ nextModeOf s e → rank ≡ rankOf s e → limit ≡ limitFor rank
+    → IsTask s (record { boxes = layout .boxes; cells = layout .cells; entry = e; row = next * layout .cells; rank = rank; limit = limit })
+is-task s layout e next rank limit R Y he q p w =
     let there : nextModeOf s e < modesOf s = R .entry e he .next-mode in
     record {
       boxes-is = Y .boxes-are;
@@ -63,4 +63,5 @@ is-task s layout e next rank R Y he q p =
       row-is = rw (q, Y .cells-are);
       row-fits = rw q (row-fits (nextModeOf s e) (modesOf s) (layout .cells) there (R .header .modes-most) (Y .cells-most));
       rank-is = p;
+      limit-is = w;
     }

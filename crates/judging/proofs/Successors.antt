@@ -4,18 +4,18 @@ use mathlib.Core.List.{List}
 use mathlib.Core.Bool.{Bool, true, false, not, _&&_, _||_}
 use mathlib.Core.Path.{_≡_, refl, sym, ap, _∙_}
 use native.Mathlib.Omega.{arith}
-use borrow.Author.Tests.{lt-ltb, le-ltb, ltb-true, ltb-false}
-use lib.Dec.{eqb, ltb}
+use borrow.Author.Tests.{lt-ltb, le-ltb, le-leb, leb-true, leb-false, ne-eqb, eqb-false, not-true}
+use lib.Dec.{eqb, leb, ltb}
 use lib.ListN.{getD}
 use Rattle.certificate.specs.Loops.{pick}
 use Rattle.certificate.specs.declared.Report.{Report}
 use Rattle.certificate.specs.Checks.{result, fine, need, orElse}
 use Rattle.certificate.specs.Layout.{nextModeOf, rankOf}
-use Rattle.certificate.proofs.Tests.{need-pass, need-fail, or-next, or-stop}
+use Rattle.certificate.proofs.Tests.{and-both, need-pass, need-fail, or-next, or-stop}
 use Rattle.judging.specs.declared.Task.{Task}
 use Rattle.judging.specs.Lookup.{entryFor, isListed, rankAt, RanksOf}
 use Rattle.judging.specs.Judging.{isLower, successorFault, accepted}
-use Rattle.judging.specs.Tables.{IsTask}
+use Rattle.judging.specs.Tables.{limitFor, IsTask}
 
 -- a successor's refusal is known by its number
 module _ (s : List ℕ) (e d n : ℕ) where
@@ -58,13 +58,21 @@ module _ (s : List ℕ) (e d n : ℕ) where
       go false q = omega arith
 
 -- a rank r is lower than the rank of the entry judged, or that is 0; the table has r + 1
-by-ranks : (rank r : ℕ) → (eqb rank 0 || ltb r rank) ≡ not (not (eqb rank 0) && ltb rank (r + 1))
-by-ranks rank r = go (eqb rank 0) (ltb rank (r + 1)) refl
+by-ranks : (rank r : ℕ) → (eqb rank 0 || ltb r rank) ≡ (eqb rank 0 || leb (r + 1) rank)
+by-ranks rank r = ap (λ b. eqb rank 0 || b) (go (leb (r + 1) rank) refl)
   where
-    go : (z q : Bool) → ltb rank (r + 1) ≡ q → (z || ltb r rank) ≡ not (not z && q)
-    go true q e = refl
-    go false true e = le-ltb r rank (omega (arith, ltb-true rank (r + 1) e))
-    go false false e = lt-ltb r rank (omega (arith, ltb-false rank (r + 1) e))
+    go : (q : Bool) → leb (r + 1) rank ≡ q → ltb r rank ≡ q
+    go true e = lt-ltb r rank (omega (arith, leb-true (r + 1) rank e))
+    go false e = le-ltb r rank (omega (arith, leb-false (r + 1) rank e))
+
+-- the code compares with a limit that any number of 32 bits meets where the rank is 0
+by-limit : (rank v : ℕ) → v ≤ 4294967295 → leb v (limitFor rank) ≡ (eqb rank 0 || leb v rank)
+unfolding limitFor
+by-limit rank v most = go (eqb rank 0)
+  where
+    go : (z : Bool) → leb v (pick z 4294967295 rank) ≡ (z || leb v rank)
+    go true = le-leb v 4294967295 most
+    go false = refl
 
 -- a slot of the table of ranks is 0 exactly where the pair is not listed
 slot-empty : (b : Bool) (r v : ℕ) → v ≡ pick b (r + 1) 0 → v ≡ 0 → b ≡ false
@@ -76,7 +84,7 @@ slot-full true r v e z = (refl, e)
 slot-full false r v e z = absurd (z e)
 
 -- successor d is looked up: v is what the table of ranks has for it and the next mode
-module _ {s : List ℕ} {task : Task} (is : IsTask s task) (ranks : List ℕ) (table : RanksOf s ranks) (d : ℕ) (inside : d < task .cells) (v : ℕ) (v-is : v ≡ getD ranks (task .row + d) 0) where
+module _ {s : List ℕ} {task : Task} (is : IsTask s task) (ranks : List ℕ) (table : RanksOf s ranks) (d : ℕ) (inside : d < task .cells) (v : ℕ) (v-is : v ≡ getD ranks (task .row + d) 0) (v-most : v ≤ 4294967295) where
   slot : v ≡ rankAt s d (nextModeOf s (task .entry))
   slot = v-is ∙ rw (is .row-is) (table _ d (is .next-exists) (rw (is .cells-is) at inside))
 
@@ -89,14 +97,20 @@ module _ {s : List ℕ} {task : Task} (is : IsTask s task) (ranks : List ℕ) (t
     unfolding rankAt
     full = slot-full _ _ v slot there
 
-    lower : isLower s (task .entry) (entryFor s d (nextModeOf s (task .entry))) ≡ not (not (eqb (task .rank) 0) && ltb (task .rank) v)
+    lower : isLower s (task .entry) (entryFor s d (nextModeOf s (task .entry))) ≡ leb v (task .limit)
     unfolding isLower
-    lower = rw (full .1, is .rank-is) (by-ranks (rankOf s (task .entry)) (rankOf s (entryFor s d (nextModeOf s (task .entry)))))
+    lower =
+        rw (full .1, is .rank-is) (by-ranks (rankOf s (task .entry)) (rankOf s (entryFor s d (nextModeOf s (task .entry)))))
+        ∙ sym (by-limit (task .rank) v v-most)
+        ∙ ap (leb v) (sym (is .limit-is))
 
-    pub is-higher : (not (eqb (task .rank) 0) && ltb (task .rank) v) ≡ true → 15 ≡ successorFault s (task .entry) d 0 .number
+    pub is-higher : (not (eqb v 0) && leb v (task .limit)) ≡ false → 15 ≡ successorFault s (task .entry) d 0 .number
     unfolding successorFault
-    is-higher h = rw (need-pass _ _ _ (full .0), need-fail _ _ _ (lower ∙ ap not h))
+    is-higher h = rw (need-pass _ _ _ (full .0), need-fail _ _ _ (lower ∙ (rw (ne-eqb v 0 there) at h)))
 
-    pub is-lower : (not (eqb (task .rank) 0) && ltb (task .rank) v) ≡ false → 0 ≡ successorFault s (task .entry) d 0 .number
-    unfolding successorFault
-    is-lower h = rw (need-pass _ _ _ (full .0), need-pass _ _ _ (lower ∙ ap not h))
+  pub is-met : (not (eqb v 0) && leb v (task .limit)) ≡ true → 0 ≡ successorFault s (task .entry) d 0 .number
+  unfolding successorFault
+  is-met h =
+      let p = and-both _ _ h in
+      let there = eqb-false v 0 (not-true _ (p .0)) in
+      rw (need-pass _ _ _ (full there .0), need-pass _ _ _ (lower there ∙ p .1))

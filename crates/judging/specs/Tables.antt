@@ -4,10 +4,11 @@ use Prim.Native.Nat.{ℕ, _+_, _*_, _/_, _%_, _≤_, _<_}
 use mathlib.Core.List.{List}
 use mathlib.Core.Bool.{true, false}
 use mathlib.Core.Path.{_≡_}
+use lib.Dec.{eqb}
 use lib.ListN.{getD}
 use Rattle.certificate.specs.declared.Report.{Report}
 use Rattle.certificate.specs.Octets.{u16At}
-use Rattle.certificate.specs.Loops.{from}
+use Rattle.certificate.specs.Loops.{pick, from}
 use Rattle.certificate.specs.Layout.{maxEntries, maxBoxes, maxCells, linksOf, modesOf, capOf, cellsOf, boxesOf, arrivalAt, lowOf, highOf, entriesOf, cellOf, signalOf, nextModeOf, rankOf}
 use Rattle.network.specs.Network.{networkOf, limitOf}
 use Rattle.network.specs.Flow.{gross}
@@ -91,6 +92,10 @@ entryAlone s e n = entryTurn s e n accepted
 abbrev pub UpperEdges : List ℕ → ℕ → List ℕ → Type 0
 UpperEdges s e upper = (l : ℕ) → l < linksOf s → getD upper l 0 ≡ upperOf s (cellOf s e) l
 
+-- the most that the table of ranks, which has them raised by one, may have for a successor: a lower rank, or any where the rank is 0
+unfoldable pub limitFor : ℕ → ℕ
+limitFor rank = pick (eqb rank 0) 4294967295 rank
+
 -- the task of an entry: the numbers are those of the certificate and of the entry, and `row` is where the next mode's ranks stand
 pub record IsTask (s : List ℕ) (task : Task) : Type 0 where
   pub boxes-is : task .boxes ≡ boxesOf s
@@ -103,3 +108,4 @@ pub record IsTask (s : List ℕ) (task : Task) : Type 0 where
   pub row-is : task .row ≡ nextModeOf s (task .entry) * cellsOf s
   pub row-fits : task .row + task .cells ≤ 32768
   pub rank-is : task .rank ≡ rankOf s (task .entry)
+  pub limit-is : task .limit ≡ limitFor (task .rank)

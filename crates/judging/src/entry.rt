@@ -8,7 +8,7 @@ ghost use Rattle.certificate.specs.Laid.{LaidOut};
 ghost use Rattle.network.specs.Laws.{Screened};
 ghost use Rattle.network.specs.Roads.{FirstTurns};
 ghost use Rattle.grid.specs.Tables.{EdgesOf, DigitsOf};
-ghost use Rattle.judging.specs.Tables.{CellEdges, EntryEnds, IsTask};
+ghost use Rattle.judging.specs.Tables.{CellEdges, EntryEnds, limitFor, IsTask};
 use crate::Task;
 use certificate::entries;
 use certificate::reading::Layout;
@@ -20,6 +20,16 @@ pub struct Edges {
     pub upper: [usize; 8],
 }
 
+// The most that the table of ranks, which has them raised by one, may have for a successor of an entry of that rank.
+fn limit_for(rank: usize) -> usize
+    ensures { λ r. ⌜ r ≡ limitFor rank ⌝ }
+{
+    if rank == 0 {
+        return 4294967295;
+    }
+    rank
+}
+
 // The task of entry e.
 pub fn task_of(s: &[u8], layout: Layout, e: usize) -> Task
     requires { ⌜ Readable (now s) × LaidOut (now s) layout × (e < entriesOf (now s)) ⌝ }
@@ -27,12 +37,14 @@ pub fn task_of(s: &[u8], layout: Layout, e: usize) -> Task
 {
     let start = layout.entries_start;
     let cells = layout.cells;
+    let rank = entries::rank_of(s, start, e);
     Task {
         boxes: layout.boxes,
         cells,
         entry: e,
         row: entries::next_mode_of(s, start, e) * cells,
-        rank: entries::rank_of(s, start, e),
+        rank,
+        limit: limit_for(rank),
     }
 }
 

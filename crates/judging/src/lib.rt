@@ -10,13 +10,14 @@ pub mod standing;
 pub mod verdict;
 
 // What the search through an entry's successors goes by: how many arrival boxes and cells there are, and the entry's number,
-// where the ranks of its next mode stand, and its own rank.
+// where the ranks of its next mode stand, its own rank, and the most that the table of ranks may have for a successor.
 pub struct Task {
     pub boxes: usize,
     pub cells: usize,
     pub entry: usize,
     pub row: usize,
     pub rank: usize,
+    pub limit: usize,
 }
 
 // What judging knows of the links, once for a certificate: how many there are, and for each how many intervals it has, how many

@@ -13,7 +13,7 @@ use certificate::Report;
 use network::ends;
 
 fn wide(x: u32) -> usize
-    ensures { λ r. ⌜ r ≡ x ⌝ }
+    ensures { λ r. ⌜ (r ≡ x) × (r ≤ 4294967295) ⌝ }
 {
     x as usize
 }
@@ -31,13 +31,13 @@ fn successor_number(s: &[u8], task: Task, ranks: &[u32; 32768], d: usize) -> u8
 {
     let at = task.row + d;
     let v = wide(ranks[at]);
+    if (v != 0) & (v <= task.limit) {
+        return 0;
+    }
     if v == 0 {
         return 14;
     }
-    if (task.rank != 0) & (task.rank < v) {
-        return 15;
-    }
-    0
+    15
 }
 
 // The nested search of an entry: arrival boxes ascending and successor cells ascending, left by the label at the first unlisted

@@ -19,22 +19,27 @@ abbrev μ-loop : tie.MeasureT-loop
 loop-holds : tie.Need-loop-holds Inv-loop μ-loop
 loop-holds c = ((refl, below-none _), (refl, below-none _))
 
-mul-first-of : tie.Need-mul-first-of Inv-loop μ-loop
-mul-first-of c = omega arith
+mul-range-of : tie.Need-mul-range-of Inv-loop μ-loop
+mul-range-of c = omega arith
 
-element-copy-out-first-of : tie.Need-element-copy-out-first-of Inv-loop μ-loop
-element-copy-out-first-of c = omega arith
+element-copy-out-range-of : tie.Need-element-copy-out-range-of Inv-loop μ-loop
+element-copy-out-range-of c = omega arith
 
-mul-first-of-2 : tie.Need-mul-first-of-2 Inv-loop μ-loop
-mul-first-of-2 c = omega arith
+mul-range-of-2 : tie.Need-mul-range-of-2 Inv-loop μ-loop
+mul-range-of-2 c = omega arith
 
-element-copy-out-first-of-2 : tie.Need-element-copy-out-first-of-2 Inv-loop μ-loop
-element-copy-out-first-of-2 c = omega arith
+element-copy-out-range-of-2 : tie.Need-element-copy-out-range-of-2 Inv-loop μ-loop
+element-copy-out-range-of-2 c = omega arith
 
-first-of-requires : tie.Need-first-of-requires Inv-loop μ-loop
-first-of-requires c κs =
-    let l = c .before .before .before in
-    let a = l .before .before in
+mul-range-of-3 : tie.Need-mul-range-of-3 Inv-loop μ-loop
+mul-range-of-3 c = omega arith
+
+element-copy-out-range-of-3 : tie.Need-element-copy-out-range-of-3 Inv-loop μ-loop
+element-copy-out-range-of-3 c = omega arith
+
+range-of-requires : tie.Need-range-of-requires Inv-loop μ-loop
+range-of-requires c κs = let l = c .before .before .before .before in
+    let a = c .before .before .before .before .before .before in
     (a .pre .0, a .pre .1, omega arith, a .pre .2 (l .loop .l) (omega arith))
 
 mul-first : tie.Need-mul-first Inv-loop μ-loop
@@ -42,24 +47,6 @@ mul-first c = omega arith
 
 array-write-first : tie.Need-array-write-first Inv-loop μ-loop
 array-write-first c = omega arith
-
-mul-last-of : tie.Need-mul-last-of Inv-loop μ-loop
-mul-last-of c = omega arith
-
-element-copy-out-last-of : tie.Need-element-copy-out-last-of Inv-loop μ-loop
-element-copy-out-last-of c = omega arith
-
-mul-last-of-2 : tie.Need-mul-last-of-2 Inv-loop μ-loop
-mul-last-of-2 c = omega arith
-
-element-copy-out-last-of-2 : tie.Need-element-copy-out-last-of-2 Inv-loop μ-loop
-element-copy-out-last-of-2 c = omega arith
-
-last-of-requires : tie.Need-last-of-requires Inv-loop μ-loop
-last-of-requires c κs =
-    let l = c .before .before .before .before .before .before in
-    let a = l .before .before in
-    (a .pre .0, a .pre .1, omega arith, a .pre .2 (l .loop .l) (omega arith))
 
 mul-last : tie.Need-mul-last Inv-loop μ-loop
 mul-last c = omega arith
@@ -74,18 +61,17 @@ loop-less : tie.Need-loop-less Inv-loop μ-loop
 loop-less c = omega arith
 
 loop-again : tie.Need-loop-again Inv-loop μ-loop
-loop-again c =
-    let l = c .before .before .before .before .before .before .before in
+loop-again c = let l = c .before .before .before .before .before in
     let a = l .before .before in
-    let s = a .args .s .now in (
-      each-more 8 _ (λ k v. IsFirst s k (getD (a .args .low .now) k 0) v) (l .loop .first) _ (l .loop .inv .0) (omega arith) (c .before .before .before .first-of .ensures),
-      each-more 8 _ (λ k v. IsLast s k (getD (a .args .high .now) k 0) v) (l .loop .last) _ (l .loop .inv .1) (omega arith) (c .last-of .ensures),
+    let s = a .args .s .now in
+    let r = c .range-of .ensures in (
+      each-more 8 _ (λ k v. IsFirst s k (getD (a .args .low .now) k 0) v) (l .loop .first) _ (l .loop .inv .0) (omega arith) (r .0),
+      each-more 8 _ (λ k v. IsLast s k (getD (a .args .high .now) k 0) v) (l .loop .last) _ (l .loop .inv .1) (omega arith) (r .1),
     )
 
 returns : tie.Need-returns Inv-loop μ-loop
-returns c =
-    let l = c .before in
-    let a = l .before .before in
+returns c = let l = c .before in
+    let a = c .before .before .before in
     range-meets (a .args .s .now) (a .args .low .now) (a .args .high .now) (l .loop .first) (l .loop .last)
     (λ k lt. l .loop .inv .0 .1 k (omega arith))
     (λ k lt. l .loop .inv .1 .1 k (omega arith))
@@ -97,18 +83,15 @@ ranges-of-spec =
     Inv-loop
     μ-loop
     loop-holds
-    mul-first-of
-    element-copy-out-first-of
-    mul-first-of-2
-    element-copy-out-first-of-2
-    first-of-requires
+    mul-range-of
+    element-copy-out-range-of
+    mul-range-of-2
+    element-copy-out-range-of-2
+    mul-range-of-3
+    element-copy-out-range-of-3
+    range-of-requires
     mul-first
     array-write-first
-    mul-last-of
-    element-copy-out-last-of
-    mul-last-of-2
-    element-copy-out-last-of-2
-    last-of-requires
     mul-last
     array-write-last
     add-l

@@ -1,6 +1,6 @@
 -- `judging::search::successor_number` meets its contract. Assumes nothing.
 use borrow.Author.Needs.{needs}
-use Rattle.judging.proofs.Successors.{is-unlisted, is-higher, is-lower}
+use Rattle.judging.proofs.Successors.{is-unlisted, is-higher, is-met}
 use Rattle.judging.proofs.search.successor_number.Statement.{statement}
 use Rattle.judging.proofs.search.successor_number.Tie as tie
 
@@ -18,20 +18,21 @@ wide-requires c κs = search needs
 
 returns : tie.Need-returns
 returns c =
-    let a = c .before .before .before .before .before in
-    is-unlisted (a .pre .0) (a .args .ranks .now) (a .pre .1) _ (a .pre .2) _ (c .before .wide .ensures) (c .if1 .taken)
+    let a = c .before .before .before .before .before .before in
+    let v = c .before .before .wide .ensures in
+    is-met (a .pre .0) (a .args .ranks .now) (a .pre .1) _ (a .pre .2) _ (v .0) (v .1) (c .if1 .taken)
 
 returns-2 : tie.Need-returns-2
 returns-2 c =
-    let listed = c .before .before .before in
-    let a = listed .before .before .before .before .before in
-    is-higher (a .pre .0) (a .args .ranks .now) (a .pre .1) _ (a .pre .2) _ (listed .before .wide .ensures) (listed .if1 .left) (c .if2 .taken)
+    let a = c .before .before .before .before .before .before .before in
+    let v = c .before .before .before .wide .ensures in
+    is-unlisted (a .pre .0) (a .args .ranks .now) (a .pre .1) _ (a .pre .2) _ (v .0) (v .1) (c .if2 .taken)
 
 returns-3 : tie.Need-returns-3
 returns-3 c =
-    let listed = c .before .before .before in
-    let a = listed .before .before .before .before .before in
-    is-lower (a .pre .0) (a .args .ranks .now) (a .pre .1) _ (a .pre .2) _ (listed .before .wide .ensures) (listed .if1 .left) (c .if2 .left)
+    let a = c .before .before .before .before .before .before .before in
+    let v = c .before .before .before .wide .ensures in
+    is-higher (a .pre .0) (a .args .ranks .now) (a .pre .1) _ (a .pre .2) _ (v .0) (v .1) (c .if2 .left) (c .before .if1 .left)
 
 pub successor-number-spec : {M : Type 1} → statement M
 successor-number-spec =
