@@ -19,14 +19,14 @@ check-opened-requires c κs = search needs
 
 returns : tie.Need-returns
 unfolding arrivalFault
-returns c = first _ _ _ (cc) (c .if1 .taken)
+returns c = first _ _ _ (rw (← c .before .before .before .before .before .pre .2, ← c .before .before .before .before .before .pre .4, ← c .before .before .before .arrival-at .ensures .0) (c .before .before .check-opened .ensures)) (c .if1 .taken)
 
 check-ranges-requires : tie.Need-check-ranges-requires
 check-ranges-requires c κs = search needs
 
 returns-2 : tie.Need-returns-2
 unfolding arrivalFault
-returns-2 c = second (c .before .before .before .check-opened .result) _ _ _ (cc) (c .before .if1 .left) (cc)
+returns-2 c = second (c .before .before .before .check-opened .result) _ _ _ (rw (← c .before .before .before .before .before .before .pre .2, ← c .before .before .before .before .before .before .pre .4, ← c .before .before .before .before .arrival-at .ensures .0) (c .before .before .before .check-opened .ensures)) (c .before .if1 .left) (rw (← c .before .before .before .before .before .before .pre .2) (c .check-ranges .ensures))
 
 pub check-arrival-spec : {M : Type 1} → statement M
 check-arrival-spec =

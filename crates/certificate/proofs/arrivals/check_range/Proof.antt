@@ -16,7 +16,7 @@ refuse-requires c κs = search needs
 
 returns : tie.Need-returns
 unfolding rangeFault
-returns c = fail _ _ _ _ (not-yes _ _ (c .before .before .before .range-ok .ensures) (c .before .before .if1 .taken)) (cc)
+returns c = fail _ _ _ _ (not-yes _ _ (c .before .before .before .range-ok .ensures) (c .before .before .if1 .taken)) (rw (← c .before .before .before .before .before .pre .3, ← c .before .before .before .before .before .pre .5, ← c .before .arrival-at .ensures .0) (c .refuse .ensures))
 
 accept-requires : tie.Need-accept-requires
 accept-requires c κs = search needs

@@ -13,7 +13,7 @@ low-of-requires c κs = search needs
 
 returns : tie.Need-returns
 unfolding rangeOk _also_
-returns c = cc
+returns c = rw (c .low-of .ensures .0, c .before .high-of .ensures .0)
 
 pub range-ok-spec : {M : Type 1} → statement M
 range-ok-spec = tie.close (tie.spec high-of-requires low-of-requires returns)

@@ -26,7 +26,7 @@ unfolding entryOk _also_
 returns c =
     let start = c .before .before .before .before .before .before .before in
     let key = start .pre .5 in
-    cc (key-ascends _ _ key (start .pre .6), key-mode _ _ key, key-cell _ _ (start .args .counts .cells) key)
+    rw (key-ascends _ _ key (start .pre .6), key-mode _ _ key, key-cell _ _ (start .args .counts .cells) key, c .before .before .before .byte-within .ensures .0, c .before .byte-within2 .ensures .0, start .pre .1, start .pre .4 .signals-are, start .pre .4 .modes-are, start .pre .4 .cells-are)
 
 pub entry-ok-spec : {M : Type 1} → statement M
 entry-ok-spec =

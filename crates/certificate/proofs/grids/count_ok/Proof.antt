@@ -14,7 +14,7 @@ mul-result c = search (product-fits, needs)
 
 returns : tie.Need-returns
 unfolding countOk _also_
-returns c = cc
+returns c = rw (c .count-at .ensures .0, c .before .before .pre .2, c .before .before .pre .3)
 
 pub count-ok-spec : {M : Type 1} → statement M
 count-ok-spec = tie.close (tie.spec count-at-requires mul-result returns)

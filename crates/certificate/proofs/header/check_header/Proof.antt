@@ -15,7 +15,7 @@ record-result-requires c κs = search needs
 
 returns : tie.Need-returns
 unfolding headerFault
-returns c = cc
+returns c = rw (← c .before .before .check-opened .ensures, ← c .before .counts-ok .ensures) (c .record-result .ensures)
 
 pub check-header-spec : {M : Type 1} → statement M
 check-header-spec =

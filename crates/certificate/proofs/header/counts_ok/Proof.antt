@@ -25,7 +25,7 @@ u16-at-requires c κs = search needs
 
 returns : tie.Need-returns
 unfolding headerOk _also_
-returns c = cc
+returns c = rw (c .u16-at .ensures .0, c .before .byte-at5 .ensures .0, c .before .before .byte-at4 .ensures .0, c .before .before .before .byte-at3 .ensures .0, c .before .before .before .before .byte-at2 .ensures .0, c .before .before .before .before .before .byte-at .ensures .0)
 
 pub counts-ok-spec : {M : Type 1} → statement M
 counts-ok-spec =

@@ -21,7 +21,7 @@ record-result-requires c κs = search needs
 
 returns : tie.Need-returns
 unfolding linkFault
-returns c = cc
+returns c = rw (← c .before .before .check-opened .ensures, ← c .before .link-ok .ensures) (c .record-result .ensures)
 
 pub check-link-spec : {M : Type 1} → statement M
 check-link-spec =

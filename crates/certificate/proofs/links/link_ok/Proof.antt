@@ -25,7 +25,7 @@ goal-of-requires c κs = search needs
 
 returns : tie.Need-returns
 unfolding linkOk _also_
-returns c = cc
+returns c = rw (c .goal-of .ensures .0, c .before .tail-of .ensures .0, c .before .before .safe-of .ensures .0, c .before .before .before .flow-of .ensures .0, c .before .before .before .before .cap-of .ensures .0, c .before .before .before .before .before .head-of .ensures .0)
 
 pub link-ok-spec : {M : Type 1} → statement M
 link-ok-spec =

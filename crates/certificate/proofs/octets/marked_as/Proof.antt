@@ -15,7 +15,7 @@ byte-within-requires-2 c κs = search needs
 
 returns : tie.Need-returns
 unfolding marked
-returns c = cc
+returns c = rw (c .byte-within2 .ensures .0, c .before .byte-within .ensures .0)
 
 pub marked-as-spec : {M : Type 1} → statement M
 marked-as-spec =

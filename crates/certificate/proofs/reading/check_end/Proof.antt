@@ -15,7 +15,7 @@ record-result-requires c κs = search needs
 
 returns : tie.Need-returns
 unfolding endFault
-returns c = cc
+returns c = rw (← c .before .before .before .pre .1, ← c .before .check-opened .ensures) (c .record-result .ensures)
 
 pub check-end-spec : {M : Type 1} → statement M
 check-end-spec =

@@ -18,7 +18,7 @@ check-links-requires c κs = search needs
 
 returns : tie.Need-returns
 unfolding networkFault linksFault
-returns c = first _ _ _ (cc) (c .if1 .taken)
+returns c = first _ _ _ (rw (← c .before .before .before .before .byte-at .ensures .0) (c .before .before .check-links .ensures)) (c .if1 .taken)
 
 mul-start : tie.Need-mul-start
 mul-start c = search needs
@@ -28,11 +28,11 @@ add-start c = search needs
 
 check-turns-requires : tie.Need-check-turns-requires
 unfolding turnsStart
-check-turns-requires c κs = (search needs, search needs, cc, search needs)
+check-turns-requires c κs = (search needs, search needs, rw (c .before .before .before .before .byte-at .ensures .0), search needs)
 
 returns-2 : tie.Need-returns-2
 unfolding networkFault linksFault turnsFault
-returns-2 c = second (c .before .before .before .before .before .check-links .result) _ _ _ (cc) (c .before .before .before .if1 .left) (first _ _ _ (cc) (c .if2 .taken))
+returns-2 c = second (c .before .before .before .before .before .check-links .result) _ _ _ (rw (← c .before .before .before .before .before .before .before .byte-at .ensures .0) (c .before .before .before .before .before .check-links .ensures)) (c .before .before .before .if1 .left) (first _ _ _ (rw (← c .before .before .before .before .before .before .byte-at2 .ensures .0) (c .before .before .check-turns .ensures)) (c .if2 .taken))
 
 mul-check-signals : tie.Need-mul-check-signals
 mul-check-signals c = search needs
@@ -45,13 +45,13 @@ byte-at-requires-3 c κs = search needs
 
 check-signals-requires : tie.Need-check-signals-requires
 unfolding turnsStart signalsStart
-check-signals-requires c κs = (search needs, search needs, cc, search needs, search needs)
+check-signals-requires c κs = (search needs, search needs, rw (c .before .before .before .before .before .before .before .before .byte-at .ensures .0, c .before .before .before .before .before .before .before .byte-at2 .ensures .0), search needs, search needs)
 
 returns-3 : tie.Need-returns-3
 unfolding networkFault linksFault turnsFault signalsFault
 returns-3 c =
-    second (c .before .before .before .before .before .before .before .check-links .result) _ _ _ (cc) (c .before .before .before .before .before .if1 .left)
-    (second (c .before .before .before .before .check-turns .result) _ _ _ (cc) (c .before .before .if2 .left) (cc))
+    second (c .before .before .before .before .before .before .before .check-links .result) _ _ _ (rw (← c .before .before .before .before .before .before .before .before .before .byte-at .ensures .0) (c .before .before .before .before .before .before .before .check-links .ensures)) (c .before .before .before .before .before .if1 .left)
+    (second (c .before .before .before .before .check-turns .result) _ _ _ (rw (← c .before .before .before .before .before .before .before .before .byte-at2 .ensures .0) (c .before .before .before .before .check-turns .ensures)) (c .before .before .if2 .left) (rw (← c .before .byte-at3 .ensures .0) (c .check-signals .ensures)))
 
 pub check-network-spec : {M : Type 1} → statement M
 check-network-spec =

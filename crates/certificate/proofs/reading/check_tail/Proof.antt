@@ -12,14 +12,14 @@ check-arrivals-requires c κs = search needs
 
 returns : tie.Need-returns
 unfolding tailFault arrivalsFault
-returns c = first _ _ _ (cc) (c .if1 .taken)
+returns c = first _ _ _ (rw (← c .before .before .before .before .pre .boxes-are) (c .before .before .check-arrivals .ensures)) (c .if1 .taken)
 
 check-entries-requires : tie.Need-check-entries-requires
 check-entries-requires c κs = search needs
 
 returns-2 : tie.Need-returns-2
 unfolding tailFault arrivalsFault entriesFault
-returns-2 c = second (c .before .before .before .before .before .check-arrivals .result) _ _ _ (cc) (c .before .before .before .if1 .left) (first _ _ _ (cc) (c .if2 .taken))
+returns-2 c = second (c .before .before .before .before .before .check-arrivals .result) _ _ _ (rw (← c .before .before .before .before .before .before .before .pre .boxes-are) (c .before .before .before .before .before .check-arrivals .ensures)) (c .before .before .before .if1 .left) (first _ _ _ (rw (← c .before .before .before .before .before .before .before .pre .entries-are) (c .before .before .check-entries .ensures)) (c .if2 .taken))
 
 mul-check-end : tie.Need-mul-check-end
 mul-check-end c = search needs
@@ -29,13 +29,13 @@ add-check-end c = search needs
 
 check-end-requires : tie.Need-check-end-requires
 unfolding endAt
-check-end-requires c κs = (search needs, cc)
+check-end-requires c κs = (search needs, rw (c .before .before .before .before .before .before .before .before .before .pre .entries-start-is, c .before .before .before .before .before .before .before .before .before .pre .entries-are))
 
 returns-3 : tie.Need-returns-3
 unfolding tailFault arrivalsFault entriesFault
 returns-3 c =
-    second (c .before .before .before .before .before .before .before .before .check-arrivals .result) _ _ _ (cc) (c .before .before .before .before .before .before .if1 .left)
-    (second (c .before .before .before .before .before .check-entries .result) _ _ _ (cc) (c .before .before .before .if2 .left) (c .check-end .ensures))
+    second (c .before .before .before .before .before .before .before .before .check-arrivals .result) _ _ _ (rw (← c .before .before .before .before .before .before .before .before .before .before .pre .boxes-are) (c .before .before .before .before .before .before .before .before .check-arrivals .ensures)) (c .before .before .before .before .before .before .if1 .left)
+    (second (c .before .before .before .before .before .check-entries .result) _ _ _ (rw (← c .before .before .before .before .before .before .before .before .before .before .pre .entries-are) (c .before .before .before .before .before .check-entries .ensures)) (c .before .before .before .if2 .left) (c .check-end .ensures))
 
 pub check-tail-spec : {M : Type 1} → statement M
 check-tail-spec =

@@ -33,7 +33,7 @@ add-result-3 c = search needs
 
 returns : tie.Need-returns
 unfolding turnsStart signalsStart gridStart
-returns c = (cc, search needs)
+returns c = (rw (c .before .before .byte-at .ensures .0, c .before .byte-at2 .ensures .0, c .byte-at3 .ensures .0), search needs)
 
 pub grids-start-spec : {M : Type 1} → statement M
 grids-start-spec =

@@ -23,7 +23,7 @@ returns : tie.Need-returns
 unfolding backFault gridsFault
 returns c =
     let bad = c .before .if1 .taken in
-    refused-as (c .refused .ensures) bad (first _ _ _ (cc) bad)
+    refused-as (c .refused .ensures) bad (first _ _ _ (rw (← c .before .before .before .before .before .byte-at .ensures .0) (c .before .before .before .before .check-grids .ensures .report-is)) bad)
 
 lay-out-requires : tie.Need-lay-out-requires
 lay-out-requires c κs = (c .before .before .before .before .before .before .before .pre, rw (← c .before .before .before .before .byte-at .ensures .0) (c .before .before .before .check-grids .ensures .laid (c .if1 .left)))
@@ -39,13 +39,13 @@ unfolding backFault gridsFault
 returns-2 c =
     let bad = c .before .if2 .taken in
     refused-as (c .refused2 .ensures) bad
-    (second (c .before .before .before .before .before .before .before .before .check-grids .result .report) _ _ _ (cc) (c .before .before .before .before .before .if1 .left) (c .before .before .before .check-tail .ensures))
+    (second (c .before .before .before .before .before .before .before .before .check-grids .result .report) _ _ _ (rw (← c .before .before .before .before .before .before .before .before .before .byte-at .ensures .0) (c .before .before .before .before .before .before .before .before .check-grids .ensures .report-is)) (c .before .before .before .before .before .if1 .left) (c .before .before .before .check-tail .ensures))
 
 returns-3 : tie.Need-returns-3
 unfolding backFault gridsFault
 returns-3 c =
     record {
-      report-is = second (c .before .before .before .before .before .before .before .check-grids .result .report) _ _ _ (cc) (c .before .before .before .before .if1 .left) (c .before .before .check-tail .ensures);
+      report-is = second (c .before .before .before .before .before .before .before .check-grids .result .report) _ _ _ (rw (← c .before .before .before .before .before .before .before .before .byte-at .ensures .0) (c .before .before .before .before .before .before .before .check-grids .ensures .report-is)) (c .before .before .before .before .if1 .left) (c .before .before .check-tail .ensures);
       laid = λ z. c .before .before .before .lay-out .ensures;
       none = λ h. absurd (h (c .if2 .left));
     }

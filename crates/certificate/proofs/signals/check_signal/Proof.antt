@@ -24,7 +24,9 @@ record-result-requires c κs = search needs
 
 returns : tie.Need-returns
 unfolding signalFault signalOk
-returns c = cc
+returns c =
+    let pre = c .before .before .before .before .before .pre in
+    rw (← c .before .before .green-byte-of .ensures .0, ← pre .4, ← c .before .power .ensures, ← pre .2, ← c .before .before .before .check-opened .ensures) (c .record-result .ensures)
 
 pub check-signal-spec : {M : Type 1} → statement M
 check-signal-spec =

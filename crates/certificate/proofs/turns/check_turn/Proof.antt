@@ -21,7 +21,7 @@ record-result-requires c κs = search needs
 
 returns : tie.Need-returns
 unfolding turnFault
-returns c = cc
+returns c = rw (← c .before .before .before .before .pre .2, ← c .before .before .check-opened .ensures, ← c .before .turn-ok .ensures) (c .record-result .ensures)
 
 pub check-turn-spec : {M : Type 1} → statement M
 check-turn-spec =

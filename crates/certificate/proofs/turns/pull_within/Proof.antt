@@ -16,7 +16,7 @@ u16-within-requires : tie.Need-u16-within-requires
 u16-within-requires c κs = search needs
 
 returns : tie.Need-returns
-returns c = (cc, search needs)
+returns c = (rw (← c .before .before .pre .2) (c .u16-within .ensures .0), search needs)
 
 pub pull-within-spec : {M : Type 1} → statement M
 pull-within-spec =

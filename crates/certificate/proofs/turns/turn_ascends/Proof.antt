@@ -1,4 +1,5 @@
 -- `certificate::turns::turn_ascends` meets its contract. Assumes nothing.
+use mathlib.Core.Path.{_∙_}
 use Rattle.certificate.proofs.TurnTotals.{turn-first, turn-after}
 use borrow.Author.Needs.{needs}
 use Rattle.certificate.proofs.turns.turn_ascends.Statement.{statement}
@@ -29,7 +30,7 @@ pair-below-requires : tie.Need-pair-below-requires
 pair-below-requires c κs = search needs
 
 returns-2 : tie.Need-returns-2
-returns-2 c = cc (turn-after _ _ (c .before .before .before .before .before .if1 .left))
+returns-2 c = c .pair-below .ensures ∙ rw (c .before .before .before .before .from-of .ensures .0, c .before .before .before .to-of .ensures .0, c .before .before .from-of2 .ensures .0, c .before .to-of2 .ensures .0) (turn-after _ _ (c .before .before .before .before .before .if1 .left))
 
 pub turn-ascends-spec : {M : Type 1} → statement M
 turn-ascends-spec =

@@ -24,7 +24,7 @@ tail-of-requires c κs = search needs
 
 returns : tie.Need-returns
 unfolding _also_
-returns c = cc
+returns c = rw (c .tail-of .ensures .0, c .before .head-of .ensures .0, c .before .before .pull-of .ensures .0, c .before .before .before .share-of .ensures .0, c .before .before .before .before .to-of .ensures .0, c .before .before .before .before .before .from-of .ensures .0, c .before .before .before .before .before .before .before .pre .3)
 
 pub turn-fits-spec : {M : Type 1} → statement M
 turn-fits-spec =
