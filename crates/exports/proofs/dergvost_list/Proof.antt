@@ -21,7 +21,7 @@ same-length-2 : tie.Need-same-length-2
 same-length-2 c = search needs
 
 returns-2 : tie.Need-returns-2
-returns-2 c = record { done = λ h. (cc, cc, cc); short = λ h. absurd (h (omega arith)) }
+returns-2 c = record { done = λ h. rw (← c .before .before .before .before .before .before .list .ensures .report) (c .before .before .put-report .ensures .0, c .before .before .before .before .before .before .list .ensures .bytes, c .before .before .put-report .ensures .1); short = λ h. absurd (h (omega arith)) }
 
 pub dergvost-list-spec : {M : Type 1} → statement M
 dergvost-list-spec =

@@ -27,7 +27,7 @@ same-length-2 : tie.Need-same-length-2
 same-length-2 c = search needs
 
 returns-3 : tie.Need-returns-3
-returns-3 c = record { done = λ h. (cc, cc, cc); short = λ h. absurd (h (omega arith, omega arith)) }
+returns-3 c = record { done = λ h. rw (← c .before .before .before .before .before .before .before .before .unpack .ensures, ← c .before .before .before .before .before .before .write .ensures .0) (c .before .before .put-report .ensures .0, c .before .before .before .before .before .before .write .ensures .1, c .before .before .put-report .ensures .1); short = λ h. absurd (h (omega arith, omega arith)) }
 
 pub dergvost-write-spec : {M : Type 1} → statement M
 dergvost-write-spec =

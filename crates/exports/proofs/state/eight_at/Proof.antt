@@ -21,7 +21,7 @@ add-result c = search needs
 
 returns : tie.Need-returns
 unfolding eightAt
-returns c = cc
+returns c = rw (c .before .quad-at .ensures .0, c .quad-at2 .ensures .0)
 
 pub eight-at-spec : {M : Type 1} → statement M
 eight-at-spec =

@@ -68,7 +68,7 @@ unfolding tailOf
 returns c =
     let dst = c .before .before .before .before .before .before .before .before .before .args .dst .now in
     let h : 9 ≤ length dst = omega arith in
-    rw tail-front (cc)
+    rw (tail-front, c .before .before .before .before .before .before .before .octet .ensures, c .before .before .before .before .before .before .octet2 .ensures, c .before .before .before .before .before .octet3 .ensures, c .before .before .before .before .octet4 .ensures, c .before .before .before .octet5 .ensures, c .before .before .octet6 .ensures, c .before .octet7 .ensures, c .octet8 .ensures)
 
 pub put-tail-spec : {M : Type 1} → statement M
 put-tail-spec =

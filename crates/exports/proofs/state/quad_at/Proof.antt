@@ -22,7 +22,7 @@ add-result c = search needs
 
 returns : tie.Need-returns
 unfolding quadAt
-returns c = (cc, omega arith)
+returns c = (rw (c .before .u16-at .ensures .0, c .u16-at2 .ensures .0), omega arith)
 
 pub quad-at-spec : {M : Type 1} → statement M
 quad-at-spec =
