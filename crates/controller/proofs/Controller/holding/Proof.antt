@@ -1,9 +1,9 @@
 -- `controller::Controller::holding` meets its contract. Assumes nothing.
 use Prim.Native.Nat.{ℕ}
 use mathlib.Core.List.{List}
-use mathlib.Core.Path.{ap, _∙_}
-use borrow.Author.Needs.{needs}
-use lib.ListN.{length}
+use mathlib.Core.Path.{ap, sym, _∙_}
+use native.Mathlib.Nat.{le-refl}
+use lib.ListN.{length, length-replicate}
 use Rattle.certificate.specs.Layout.{maxLength}
 use Rattle.controller.specs.declared.Controller.{Controller}
 use Rattle.controller.proofs.Copying.{copied-all}
@@ -15,10 +15,10 @@ abbrev controller : List ℕ → ℕ → Controller
 controller b n = record { bytes = b; len = n; mode = 0 }
 
 slice-aggregate-put : tie.Need-slice-aggregate-put
-slice-aggregate-put c = search needs
+slice-aggregate-put c = sym (length-replicate {A = ℕ} 37763 0)
 
 put-requires : tie.Need-put-requires
-put-requires c κs = search needs
+put-requires c κs = (le-refl _, rw (length-replicate {A = ℕ} 37763 0) (c .before .before .pre))
 
 returns : tie.Need-returns
 returns c =

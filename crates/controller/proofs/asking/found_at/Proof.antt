@@ -25,7 +25,7 @@ cast-t11 : tie.Need-cast-t11
 cast-t11 c = search needs
 
 returns : tie.Need-returns
-returns c = cc
+returns c = rw (c .accept .ensures, c .before .next-mode-of .ensures .0, c .before .before .green-byte-of .ensures .0, c .before .before .before .signal-of .ensures .0)
 
 pub found-at-spec : {M : Type 1} → statement M
 found-at-spec =

@@ -30,8 +30,8 @@ cell-at-requires c κs =
 find-entry-requires : tie.Need-find-entry-requires
 find-entry-requires c κs =
     let a = c .before .before .before .before .before .before .before in
-    let ascend = cells-ascend (a .args .s .now) (a .pre .1) in
-    search needs
+    let laid = a .pre .0 in
+    (laid .entries-start-most, laid .entries-start-is, laid .entries-most, laid .entries-are, cells-ascend (a .args .s .now) (a .pre .1), search needs)
 
 not-found-requires-2 : tie.Need-not-found-requires-2
 not-found-requires-2 c κs = search needs
@@ -40,7 +40,7 @@ returns-2 : tie.Need-returns-2
 returns-2 c = search (finds-none, not-no)
 
 found-at-requires : tie.Need-found-at-requires
-found-at-requires c κs = search needs
+found-at-requires c κs = (c .before .before .before .before .before .before .before .before .before .pre .0, search needs)
 
 returns-3 : tie.Need-returns-3
 returns-3 c = search (finds, not-no)

@@ -7,7 +7,7 @@ refuse-requires : tie.Need-refuse-requires
 refuse-requires c κs = search needs
 
 returns : tie.Need-returns
-returns c = cc
+returns c = rw (c .refuse .ensures)
 
 pub not-found-spec : {M : Type 1} → statement M
 not-found-spec = tie.close (tie.spec refuse-requires returns)

@@ -10,7 +10,7 @@ queues-fit-requires c κs = search needs
 
 returns : tie.Need-returns
 unfolding isProper _also_
-returns c = cc
+returns c = rw (c .queues-fit .ensures, c .before .before .before .pre .1)
 
 pub is-proper-spec : {M : Type 1} → statement M
 is-proper-spec = tie.close (tie.spec queues-fit-requires returns)
