@@ -9,6 +9,7 @@ ghost use Rattle.listing.specs.Listing.{countsLine, entryLine, entryLine
 use crate::fields;
 use crate::text;
 use certificate::Report;
+use certificate::octets;
 
 // A word, a number, and the byte after them.
 fn field_length(word: &[u8], n: u32) -> usize
@@ -23,7 +24,7 @@ fn count_length(word: &[u8], s: &[u8], o: usize) -> usize
     requires { ⌜ length (now word) ≤ 10 ⌝ }
     ensures { λ r. ⌜ (r ≡ length (now (word .entry)) + length (decimal (byteAt (now (s .entry)) o)) + 1) × (r ≤ 21) ⌝ }
 {
-    field_length(word, fields::byte_at(s, o) as u32)
+    field_length(word, octets::byte_at(s, o) as u32)
 }
 
 pub fn counts_length(s: &[u8]) -> usize

@@ -10,13 +10,14 @@ ghost use Rattle.listing.specs.Place.{Room, Put};
 use crate::fields;
 use crate::text;
 use certificate::Report;
+use certificate::octets;
 
 // A word, and the count that stands as a byte at an offset of s.
 fn put_count(buffer: &mut [u8], at: usize, word: &[u8], s: &[u8], o: usize) -> usize
     requires { ⌜ Room (now buffer) at (now word ++ (decimal (byteAt (now s) o) ++ space)) ⌝ }
     ensures { λ r. ⌜ Put (now (buffer .entry)) at (now (word .entry) ++ (decimal (byteAt (now (s .entry)) o) ++ space)) (now (buffer .exit)) r ⌝ }
 {
-    text::put_field(buffer, at, word, fields::byte_at(s, o) as u32, b' ')
+    text::put_field(buffer, at, word, octets::byte_at(s, o) as u32, b' ')
 }
 
 pub fn put_counts(buffer: &mut [u8], at: usize, s: &[u8]) -> usize

@@ -34,7 +34,7 @@ cast-rank : tie.Need-cast-rank
 cast-rank c = search needs
 
 returns : tie.Need-returns
-returns c = cc
+returns c = rw (c .rank-of .ensures .0, c .before .next-mode-of .ensures .0, c .before .before .signal-of .ensures .0, c .before .before .before .mode-of .ensures .0, c .before .before .before .before .cell-of .ensures .0)
 
 pub entry-numbers-spec : {M : Type 1} → statement M
 entry-numbers-spec =
