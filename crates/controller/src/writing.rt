@@ -3,7 +3,6 @@ ghost use mathlib.Core.Path.{_≡_};
 ghost use mathlib.Core.Bool.{true};
 ghost use Prim.Native.Nat.{_≤_};
 ghost use lib.ListN.{length};
-ghost use Rattle.certificate.specs.Checks.{refusal};
 ghost use Rattle.certificate.specs.Layout.{maxLength};
 ghost use Rattle.controller.specs.State.{holdsCertificate};
 ghost use Rattle.controller.specs.Write.{storing, writeReport, writeBuffer};
@@ -13,28 +12,17 @@ use crate::stored;
 use certificate::Report;
 use certificate::octets;
 
+// Writes the certificate that the first n of the bytes are into the buffer from start on; A is its length.
 // Refusal 17: the start lies beyond the buffer, or the part from there is too short.
-fn no_room() -> Report
-    ensures { λ r. ⌜ r ≡ refusal 17 0 ⌝ }
-{
-    Report {
-        number: 17,
-        a: 0,
-        b: 0,
-        count: 0,
-    }
-}
-
-// Writes the certificate that the first n of the bytes are into the buffer from start on, where there is room; A is its length.
 fn write_stored(bytes: &[u8], n: usize, buffer: &mut [u8], start: usize) -> Report
     requires { ⌜ (length (now bytes) ≡ maxLength) × (holdsCertificate (storing (now bytes) n) ≡ true) ⌝ }
     ensures { λ r. ⌜ (r ≡ writeReport (storing (now (bytes .entry)) n) (now (buffer .entry)) start) × (now (buffer .exit) ≡ writeBuffer (storing (now (bytes .entry)) n) (now (buffer .entry)) start) ⌝ }
 {
     if start > buffer.len() {
-        return no_room();
+        return octets::refuse(17, 0);
     }
     if buffer.len() - start < n {
-        return no_room();
+        return octets::refuse(17, 0);
     }
     filling::put(bytes, n, &mut buffer[start..]);
     Report {

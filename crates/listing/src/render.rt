@@ -2,25 +2,14 @@
 ghost use mathlib.Core.Path.{_≡_};
 ghost use Prim.Native.Nat.{_≤_};
 ghost use lib.ListN.{length};
-ghost use Rattle.certificate.specs.Checks.{result, refusal};
+ghost use Rattle.certificate.specs.Checks.{result};
 ghost use Rattle.listing.specs.Place.{Room, Put};
 ghost use Rattle.listing.specs.Listing.{EntriesAt, refusedLine, acceptedText, textOf, Sent};
 use crate::fields;
 use crate::lengths;
 use crate::lines;
 use certificate::Report;
-
-// The answer for a text that does not fit.
-fn no_room() -> Report
-    ensures { λ r. ⌜ r ≡ refusal 17 0 ⌝ }
-{
-    Report {
-        number: 17,
-        a: 0,
-        b: 0,
-        count: 0,
-    }
-}
+use certificate::octets;
 
 // The answer for a text of this length.
 fn sent(size: usize) -> Report
@@ -62,7 +51,7 @@ pub fn render_accepted(s: &[u8], start: usize, report: Report, buffer: &mut [u8]
 {
     let size = text_length(s, start, report);
     if buffer.len() < size {
-        return no_room();
+        return octets::refuse(17, 0);
     }
     put_text(buffer, s, start, report);
     sent(size)
@@ -74,7 +63,7 @@ pub fn render_refused(report: Report, buffer: &mut [u8]) -> Report
 {
     let size = lengths::refused_length(report);
     if buffer.len() < size {
-        return no_room();
+        return octets::refuse(17, 0);
     }
     lines::put_refused(buffer, 0, report);
     sent(size)

@@ -16,28 +16,28 @@ use Rattle.controller.proofs.writing.write_stored.Tie as tie
 fits : (c : tie.Start) → c .args .n ≤ maxLength
 fits c = holds-is-plain (storing (c .args .bytes .now) (c .args .n)) .0 (c .pre .1) .fits
 
-no-room-requires : tie.Need-no-room-requires
-no-room-requires c κs = search needs
+refuse-requires : tie.Need-refuse-requires
+refuse-requires c κs = search needs
 
 returns : tie.Need-returns
 returns c =
     let s = c .before .before .before .before in
     let a = s .args in
     let w = too-short (storing (a .bytes .now) (a .n)) (a .buffer .now) (a .start) (s .pre .1) (λ r. omega arith) in
-    (c .no-room .ensures ∙ sym (w .0), sym (w .1))
+    (c .refuse .ensures ∙ sym (w .0), sym (w .1))
 
 sub-if2 : tie.Need-sub-if2
 sub-if2 c = search needs
 
-no-room-requires-2 : tie.Need-no-room-requires-2
-no-room-requires-2 c κs = search needs
+refuse-requires-2 : tie.Need-refuse-requires-2
+refuse-requires-2 c κs = search needs
 
 returns-2 : tie.Need-returns-2
 returns-2 c =
     let s = c .before .before .before .before .before in
     let a = s .args in
     let w = too-short (storing (a .bytes .now) (a .n)) (a .buffer .now) (a .start) (s .pre .1) (λ r. omega arith) in
-    (c .no-room2 .ensures ∙ sym (w .0), sym (w .1))
+    (c .refuse2 .ensures ∙ sym (w .0), sym (w .1))
 
 sub-put : tie.Need-sub-put
 sub-put c = search needs
@@ -69,10 +69,10 @@ pub write-stored-spec : {M : Type 1} → statement M
 write-stored-spec =
     tie.close
     (tie.spec
-    no-room-requires
+    refuse-requires
     returns
     sub-if2
-    no-room-requires-2
+    refuse-requires-2
     returns-2
     sub-put
     part-put-start

@@ -11,11 +11,11 @@ use Rattle.listing.proofs.render.render_accepted.Tie as tie
 text-length-requires : tie.Need-text-length-requires
 text-length-requires c κs = search needs
 
-no-room-requires : tie.Need-no-room-requires
-no-room-requires c κs = search needs
+refuse-requires : tie.Need-refuse-requires
+refuse-requires c κs = search needs
 
 returns : tie.Need-returns
-returns c = refuses (omega arith) (c .no-room .ensures)
+returns c = refuses (omega arith) (c .refuse .ensures)
 
 put-text-requires : tie.Need-put-text-requires
 put-text-requires c κs = (c .before .before .before .before .before .pre, record { fits = omega arith })
@@ -31,4 +31,4 @@ returns-2 c = sends (omega arith) (c .before .before .before .put-text .ensures)
 
 pub render-accepted-spec : {M : Type 1} → statement M
 render-accepted-spec =
-    tie.close (tie.spec text-length-requires no-room-requires returns put-text-requires sent-requires same-length returns-2)
+    tie.close (tie.spec text-length-requires refuse-requires returns put-text-requires sent-requires same-length returns-2)

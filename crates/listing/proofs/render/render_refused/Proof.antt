@@ -11,11 +11,11 @@ use Rattle.listing.proofs.render.render_refused.Tie as tie
 refused-length-requires : tie.Need-refused-length-requires
 refused-length-requires c κs = search needs
 
-no-room-requires : tie.Need-no-room-requires
-no-room-requires c κs = search needs
+refuse-requires : tie.Need-refuse-requires
+refuse-requires c κs = search needs
 
 returns : tie.Need-returns
-returns c = refuses (omega arith) (c .no-room .ensures)
+returns c = refuses (omega arith) (c .refuse .ensures)
 
 put-refused-requires : tie.Need-put-refused-requires
 put-refused-requires c κs = record { fits = omega arith }
@@ -31,4 +31,4 @@ returns-2 c = sends (omega arith) (c .before .before .before .put-refused .ensur
 
 pub render-refused-spec : {M : Type 1} → statement M
 render-refused-spec =
-    tie.close (tie.spec refused-length-requires no-room-requires returns put-refused-requires sent-requires same-length returns-2)
+    tie.close (tie.spec refused-length-requires refuse-requires returns put-refused-requires sent-requires same-length returns-2)
