@@ -38,20 +38,30 @@ fn octet(n: usize, unit: usize) -> u8
     (n / unit % 256) as u8
 }
 
-// The length's eight bytes and the mode into the front of a slice.
+// The length's eight bytes and the mode.
+fn tail_of(n: usize, mode: u8) -> [u8; 9]
+    ensures { λ r. ⌜ r ≡ tailOf n mode ⌝ }
+{
+    [
+        octet(n, 72057594037927936),
+        octet(n, 281474976710656),
+        octet(n, 1099511627776),
+        octet(n, 4294967296),
+        octet(n, 16777216),
+        octet(n, 65536),
+        octet(n, 256),
+        octet(n, 1),
+        mode,
+    ]
+}
+
+// The same into the front of a slice.
 fn put_tail(n: usize, mode: u8, dst: &mut [u8])
     requires { ⌜ 9 ≤ length (now dst) ⌝ }
     ensures { λ _. ⌜ now (dst .exit) ≡ tailOf n mode ++ drop 9 (now (dst .entry)) ⌝ }
 {
-    dst[0] = octet(n, 72057594037927936);
-    dst[1] = octet(n, 281474976710656);
-    dst[2] = octet(n, 1099511627776);
-    dst[3] = octet(n, 4294967296);
-    dst[4] = octet(n, 16777216);
-    dst[5] = octet(n, 65536);
-    dst[6] = octet(n, 256);
-    dst[7] = octet(n, 1);
-    dst[8] = mode;
+    let tail = tail_of(n, mode);
+    filling::put(&tail, 9, dst);
 }
 
 // The state that the bytes are.
