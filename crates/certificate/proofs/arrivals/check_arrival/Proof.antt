@@ -1,9 +1,17 @@
 -- `certificate::arrivals::check_arrival` meets its contract. Assumes nothing.
+use mathlib.Core.Path.{_≡_}
+use Rattle.certificate.specs.Checks.{opened}
+use Rattle.certificate.specs.Layout.{linksOf, arrivalAt, arrivalSize}
 use Rattle.certificate.specs.Records.{arrivalFault}
 use Rattle.certificate.proofs.Cases.{first, second}
 use borrow.Author.Needs.{needs}
 use Rattle.certificate.proofs.arrivals.check_arrival.Statement.{statement}
 use Rattle.certificate.proofs.arrivals.check_arrival.Tie as tie
+
+-- what the test of the opening answered
+opening-said : (c : tie.After-check-opened) →
+    let a = c .before .before .before .args in c .check-opened .result ≡ opened (a .s .now) (arrivalAt (a .s .now) (a .b)) 65 82 (arrivalSize (linksOf (a .s .now)))
+opening-said c = rw (← c .before .before .before .pre .2, ← c .before .before .before .pre .4, ← c .before .arrival-at .ensures .0) (c .check-opened .ensures)
 
 arrival-at-requires : tie.Need-arrival-at-requires
 arrival-at-requires c κs = search needs
@@ -19,14 +27,14 @@ check-opened-requires c κs = search needs
 
 returns : tie.Need-returns
 unfolding arrivalFault
-returns c = first _ _ _ (rw (← c .before .before .before .before .before .pre .2, ← c .before .before .before .before .before .pre .4, ← c .before .before .before .arrival-at .ensures .0) (c .before .before .check-opened .ensures)) (c .if1 .taken)
+returns c = first _ _ _ (opening-said (c .before .before)) (c .if1 .taken)
 
 check-ranges-requires : tie.Need-check-ranges-requires
 check-ranges-requires c κs = search needs
 
 returns-2 : tie.Need-returns-2
 unfolding arrivalFault
-returns-2 c = second (c .before .before .before .check-opened .result) _ _ _ (rw (← c .before .before .before .before .before .before .pre .2, ← c .before .before .before .before .before .before .pre .4, ← c .before .before .before .before .arrival-at .ensures .0) (c .before .before .before .check-opened .ensures)) (c .before .if1 .left) (rw (← c .before .before .before .before .before .before .pre .2) (c .check-ranges .ensures))
+returns-2 c = second _ _ _ _ (opening-said (c .before .before .before)) (c .before .if1 .left) (rw (← c .before .before .before .before .before .before .pre .2) (c .check-ranges .ensures))
 
 pub check-arrival-spec : {M : Type 1} → statement M
 check-arrival-spec =

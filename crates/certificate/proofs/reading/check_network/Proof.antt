@@ -1,4 +1,5 @@
 -- `certificate::reading::check_network` meets its contract. Assumes nothing.
+use mathlib.Core.Path.{_≡_}
 use Rattle.certificate.specs.Layout.{turnsStart, signalsStart}
 use Rattle.certificate.specs.Reading.{linksFault, turnsFault, signalsFault}
 use Rattle.certificate.specs.Laid.{networkFault}
@@ -6,6 +7,15 @@ use Rattle.certificate.proofs.Cases.{first, second}
 use borrow.Author.Needs.{needs}
 use Rattle.certificate.proofs.reading.check_network.Statement.{statement}
 use Rattle.certificate.proofs.reading.check_network.Tie as tie
+
+-- what the tests of the links and of the turns answered
+links-said : (c : tie.After-check-links) → c .check-links .result ≡ linksFault (c .before .before .before .before .args .s .now)
+unfolding linksFault
+links-said c = rw (← c .before .before .byte-at .ensures .0) (c .check-links .ensures)
+
+turns-said : (c : tie.After-check-turns) → c .check-turns .result ≡ turnsFault (c .before .before .before .before .before .before .before .args .s .now)
+unfolding turnsFault
+turns-said c = rw (← c .before .before .before .before .byte-at2 .ensures .0) (c .check-turns .ensures)
 
 byte-at-requires : tie.Need-byte-at-requires
 byte-at-requires c κs = search needs
@@ -17,8 +27,8 @@ check-links-requires : tie.Need-check-links-requires
 check-links-requires c κs = search needs
 
 returns : tie.Need-returns
-unfolding networkFault linksFault
-returns c = first _ _ _ (rw (← c .before .before .before .before .byte-at .ensures .0) (c .before .before .check-links .ensures)) (c .if1 .taken)
+unfolding networkFault
+returns c = first _ _ _ (links-said (c .before .before)) (c .if1 .taken)
 
 mul-start : tie.Need-mul-start
 mul-start c = search needs
@@ -31,8 +41,8 @@ unfolding turnsStart
 check-turns-requires c κs = (search needs, search needs, rw (c .before .before .before .before .byte-at .ensures .0), search needs)
 
 returns-2 : tie.Need-returns-2
-unfolding networkFault linksFault turnsFault
-returns-2 c = second (c .before .before .before .before .before .check-links .result) _ _ _ (rw (← c .before .before .before .before .before .before .before .byte-at .ensures .0) (c .before .before .before .before .before .check-links .ensures)) (c .before .before .before .if1 .left) (first _ _ _ (rw (← c .before .before .before .before .before .before .byte-at2 .ensures .0) (c .before .before .check-turns .ensures)) (c .if2 .taken))
+unfolding networkFault
+returns-2 c = second _ _ _ _ (links-said (c .before .before .before .before .before)) (c .before .before .before .if1 .left) (first _ _ _ (turns-said (c .before .before)) (c .if2 .taken))
 
 mul-check-signals : tie.Need-mul-check-signals
 mul-check-signals c = search needs
@@ -48,10 +58,10 @@ unfolding turnsStart signalsStart
 check-signals-requires c κs = (search needs, search needs, rw (c .before .before .before .before .before .before .before .before .byte-at .ensures .0, c .before .before .before .before .before .before .before .byte-at2 .ensures .0), search needs, search needs)
 
 returns-3 : tie.Need-returns-3
-unfolding networkFault linksFault turnsFault signalsFault
+unfolding networkFault signalsFault
 returns-3 c =
-    second (c .before .before .before .before .before .before .before .check-links .result) _ _ _ (rw (← c .before .before .before .before .before .before .before .before .before .byte-at .ensures .0) (c .before .before .before .before .before .before .before .check-links .ensures)) (c .before .before .before .before .before .if1 .left)
-    (second (c .before .before .before .before .check-turns .result) _ _ _ (rw (← c .before .before .before .before .before .before .before .before .byte-at2 .ensures .0) (c .before .before .before .before .check-turns .ensures)) (c .before .before .if2 .left) (rw (← c .before .byte-at3 .ensures .0) (c .check-signals .ensures)))
+    second _ _ _ _ (links-said (c .before .before .before .before .before .before .before)) (c .before .before .before .before .before .if1 .left)
+    (second _ _ _ _ (turns-said (c .before .before .before .before)) (c .before .before .if2 .left) (rw (← c .before .byte-at3 .ensures .0) (c .check-signals .ensures)))
 
 pub check-network-spec : {M : Type 1} → statement M
 check-network-spec =
