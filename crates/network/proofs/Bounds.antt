@@ -1,14 +1,19 @@
--- The links that a turn joins are among eight, and its record is there whole. Assumes nothing.
+-- The links that a turn joins are among eight, and the records of both are there whole. Assumes nothing.
 use Prim.Native.Nat.{ℕ, _+_, _≤_, _<_}
 use mathlib.Core.List.{List}
+use mathlib.Core.Path.{refl}
 use native.Mathlib.Omega.{arith}
 use lib.ListN.{length}
-use Rattle.certificate.specs.Layout.{turnAt, turnSize, linksOf, capOf, flowOf, fromOf, toOf}
+use Rattle.certificate.specs.Layout.{linkAt, linkSize, turnAt, turnSize, linksOf, turnsOf, capOf, flowOf, fromOf, toOf}
 use Rattle.certificate.specs.Facts.{Readable}
-use Rattle.certificate.proofs.Offsets.{starts, turn-end}
+use Rattle.certificate.proofs.Offsets.{starts, link-end, turn-end}
 use Rattle.network.specs.Roads.{Roads, at, WithinCaps}
 
 module _ {s : List ℕ} {start turns links : ℕ} (R : Roads s start turns links) where
+  -- the same with the counts as the certificate has them
+  pub roads-own : Roads s start (turnsOf s) (linksOf s)
+  roads-own = record { readable = R .readable; start-is = R .start-is; start-most = R .start-most; turns-is = refl; links-is = refl }
+
   pub turns-most : turns ≤ 32
   turns-most = omega (arith, R .readable .header)
 
@@ -32,6 +37,9 @@ module _ {s : List ℕ} {start turns links : ℕ} (R : Roads s start turns links
 
   pub turn-whole : (t : ℕ) → t < turns → turnAt s t + turnSize ≤ length s
   turn-whole t h = omega (arith, turn-end s t (omega arith), starts s, R .readable .whole)
+
+  pub link-whole : (l : ℕ) → l < links → linkAt l + linkSize ≤ length s
+  link-whole l h = omega (arith, link-end s l (omega arith), starts s, R .readable .whole)
 
 -- no queue within the caps exceeds 10,000
 pub queue-most : {s x : List ℕ} → Readable s → WithinCaps s x → (l : ℕ) → l < linksOf s → at x l ≤ 10000

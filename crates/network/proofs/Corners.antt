@@ -1,6 +1,6 @@
 -- At the corner of a link, the link itself sends what it sends where all queues are its own side's, and a turn into it is
 -- pushed what its from link sends with the other side's queues on the other links that it turns into. Assumes nothing.
-use Prim.Native.Nat.{ℕ, _+_, _*_, _-_, _<_, min}
+use Prim.Native.Nat.{ℕ, _+_, _*_, _-_, _<_}
 use mathlib.Core.Bool.{Bool, true, false, not}
 use mathlib.Core.Path.{_≡_, refl, sym, ap, _∙_}
 use native.Mathlib.Omega.{arith}
@@ -9,10 +9,10 @@ use lib.Dec.{eqb}
 use Rattle.certificate.specs.Loops.{pick, sumTo}
 use Rattle.certificate.proofs.Loops.{sum-same}
 use Rattle.network.specs.Network.{Network}
-use Rattle.network.specs.Flow.{leastTo, supply, sent, passedIn, gross}
+use Rattle.network.specs.Flow.{supply, sent, passedIn, gross}
 use Rattle.network.specs.Image.{beside, lowCorner}
 use Rattle.network.specs.Sound.{Joined}
-use Rattle.network.specs.Roads.{into}
+use Rattle.network.specs.Roads.{into, pushed}
 use Rattle.network.proofs.Least.{least-same}
 
 -- a link of another tail is not beside l, and neither is l
@@ -48,12 +48,6 @@ module _ (N : Network) (J : Joined N) (limit own other : ℕ → ℕ) where
       rw (at-own l l (itself N l))
       (least-same (N .turns) _ _ _ _ _ (λ t lt. refl) (λ t lt p. rw (onward l t hl lt (eqb-true _ _ p))))
 
-  -- what the from link of turn t sends where own queues stand on it and on the link that t leads into, and others on the rest
-  abbrev pub pushed : ℕ → ℕ
-  pushed t =
-      leastTo (N .turns) (λ u. eqb (N .from u) (N .from t)) (λ u. pick (eqb u t) (supply N limit 1 own u) (supply N limit 1 other u))
-      (min (100 * own (N .from t)) (100 * (1 * limit (N .from t))))
-
   -- the from link of a turn into l has another tail than l
   backward : (l t : ℕ) → t < N .turns → N .to t ≡ l → lowCorner N l own other (N .from t) ≡ own (N .from t)
   backward l t lt e =
@@ -73,24 +67,24 @@ module _ (N : Network) (J : Joined N) (limit own other : ℕ → ℕ) where
           let apart : N .to u ≡ l → ⊥ = λ h. eqb-false u t q (J .one-turn u t lu lt f (h ∙ sym e)) in
           rw (at-other l (N .to u) (same-tail N l (N .to u) meets apart))
 
-  corner-pushed : (l t : ℕ) → t < N .turns → N .to t ≡ l → sent N limit 1 (lowCorner N l own other) (N .from t) ≡ pushed t
+  corner-pushed : (l t : ℕ) → t < N .turns → N .to t ≡ l → sent N limit 1 (lowCorner N l own other) (N .from t) ≡ pushed N limit own other t
   unfolding sent
   corner-pushed l t lt e =
       rw (backward l t lt e)
       (least-same (N .turns) _ _ _ _ _ (λ u lu. refl) (λ u lu p. sideways l t u lt lu e (eqb-true _ _ p)))
 
-  corner-passed : (l : ℕ) → passedIn N limit 1 (lowCorner N l own other) l ≡ sumTo (N .turns) (into (N .to) (λ t. N .share t * pushed t) l)
+  corner-passed : (l : ℕ) → passedIn N limit 1 (lowCorner N l own other) l ≡ sumTo (N .turns) (into (N .to) (λ t. N .share t * pushed N limit own other t) l)
   unfolding passedIn
   corner-passed l = sum-same (N .turns) _ _ (λ t lt. go t lt (eqb (N .to t) l) refl)
     where
       go : (t : ℕ) → t < N .turns → (q : Bool) → eqb (N .to t) l ≡ q
-          → pick q (N .share t * sent N limit 1 (lowCorner N l own other) (N .from t)) 0 ≡ pick q (N .share t * pushed t) 0
+          → pick q (N .share t * sent N limit 1 (lowCorner N l own other) (N .from t)) 0 ≡ pick q (N .share t * pushed N limit own other t) 0
       go t lt true q = rw (corner-pushed l t lt (eqb-true _ _ q))
       go t lt false q = refl
 
   -- so the next queue before arrivals is what stays, and a sum over the turns that does not look at corners
   pub corner-gross : (l : ℕ) → l < N .links
       → gross N limit 1 (lowCorner N l own other) (λ _. 0) l
-      ≡ 10000 * own l - 100 * sent N limit 1 own l + sumTo (N .turns) (into (N .to) (λ t. N .share t * pushed t) l)
+      ≡ 10000 * own l - 100 * sent N limit 1 own l + sumTo (N .turns) (into (N .to) (λ t. N .share t * pushed N limit own other t) l)
   unfolding gross
   corner-gross l hl = omega (arith, at-own l l (itself N l), corner-sent l hl, corner-passed l)

@@ -10,6 +10,7 @@ pub mod Summing
 pub mod Picking
 pub mod Bounds
 pub mod Least
+pub mod TwoLeast
 pub mod Filling
 pub mod Corners
 pub mod Outward

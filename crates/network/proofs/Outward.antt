@@ -1,5 +1,5 @@
 -- The turns from one link stand together, from its first turn up to the next link's. Assumes nothing.
-use Prim.Native.Nat.{ℕ, _+_, _≤_, _<_}
+use Prim.Native.Nat.{ℕ, zero, suc, _+_, _≤_, _<_}
 use mathlib.Core.List.{List}
 use mathlib.Core.Bool.{Bool, true, false}
 use mathlib.Core.Path.{_≡_, refl, _∙_}
@@ -9,7 +9,7 @@ use native.Mathlib.Omega.{arith}
 use borrow.Author.Tests.{leb-true, leb-false, eq-eqb, ne-eqb}
 use lib.Dec.{leb, eqb}
 use lib.ListN.{getD}
-use Rattle.certificate.specs.Layout.{turnsOf, fromOf}
+use Rattle.certificate.specs.Layout.{linksOf, turnsOf, fromOf}
 use Rattle.certificate.specs.Facts.{Readable}
 use Rattle.certificate.proofs.Loops.{Found, found}
 use Rattle.network.specs.Flow.{leastTo}
@@ -49,12 +49,37 @@ module _ (s first : List ℕ) (R : Readable s) (F : FirstTurns s first) where
           let less : begin (j + 1) < begin j = leb-false _ _ q in
           absurd (omega (arith, begin-most j (omega arith), earlier j (begin (j + 1)) (omega arith) less, later (j + 1) (begin (j + 1)) (omega arith) (omega arith) (omega (arith, begin-most j (omega arith)))))
 
+  -- the turns of the first link begin first, and the last of all are those of the last link
+  pub begin-first : begin 0 ≡ 0
+  begin-first = go (begin 0) refl
+    where
+      go : (b : ℕ) → begin 0 ≡ b → begin 0 ≡ 0
+      go zero e = e
+      go (suc b) e = absurd (omega (arith, earlier 0 0 (omega arith) (omega arith)))
+
+  pub begin-last : begin (linksOf s) ≡ turnsOf s
+  begin-last = go (leb (turnsOf s) (begin (linksOf s))) refl
+    where
+      known-links : linksOf s < 9
+      known-links = omega (arith, R .header)
+
+      go : (q : Bool) → leb (turnsOf s) (begin (linksOf s)) ≡ q → begin (linksOf s) ≡ turnsOf s
+      go true q = let most : turnsOf s ≤ begin (linksOf s) = leb-true _ _ q in omega (arith, begin-most (linksOf s) known-links)
+      go false q =
+          let less : begin (linksOf s) < turnsOf s = leb-false _ _ q in
+          absurd (omega (arith, later (linksOf s) (begin (linksOf s)) known-links (omega arith) less, R .turn (begin (linksOf s)) less .from-link))
+
+  -- the turns in between lead from link j
+  pub from-here : (j t : ℕ) → j < 8 → begin j ≤ t → t < begin (j + 1) → fromOf s t ≡ j
+  from-here j t h le lt =
+      omega (arith, earlier (j + 1) t (omega arith) lt, later j t (omega arith) le (omega (arith, begin-most (j + 1) (omega arith))))
+
   -- a turn leads from link j exactly if it stands between
   between : (j t : ℕ) → j < 8 → t < turnsOf s → t < begin (j + 1) → eqb (fromOf s t) j ≡ leb (begin j) t
   between j t h lt below = go (leb (begin j) t) refl
     where
       go : (q : Bool) → leb (begin j) t ≡ q → eqb (fromOf s t) j ≡ q
-      go true q = eq-eqb (fromOf s t) j (omega (arith, earlier (j + 1) t (omega arith) below, later j t (omega arith) (leb-true _ _ q) lt))
+      go true q = eq-eqb (fromOf s t) j (from-here j t h (leb-true _ _ q) below)
       go false q = ne-eqb (fromOf s t) j (λ e. omega (arith, earlier j t (omega arith) (leb-false _ _ q)))
 
   -- so the least over the turns from link j is the least over those

@@ -1,9 +1,10 @@
 -- Sums of turns by the link that they lead to, kept in an array of eight, one turn after another. Assumes nothing.
-use Prim.Native.Nat.{ℕ, _+_, _*_, _≤_, _<_}
+use Prim.Native.Nat.{ℕ, zero, suc, _+_, _*_, _-_, _≤_, _<_}
 use mathlib.Core.List.{List}
 use mathlib.Core.Bool.{Bool, true, false}
 use mathlib.Core.Path.{_≡_, refl, sym}
-use native.Mathlib.Nat.{add-mul}
+use mathlib.Core.Logic.{⊎-elim}
+use native.Mathlib.Nat.{add-mul, eq-or-lt-of-le}
 use native.Mathlib.Numerals.{add-one}
 use native.Mathlib.Omega.{arith}
 use borrow.Author.Tests.{eqb-true, eqb-false}
@@ -11,33 +12,44 @@ use lib.Dec.{eqb}
 use lib.ListN.{length, getD, set, replicate, length-set, getD-replicate}
 use lib.Seq.{getD-set-same, getD-set-other}
 use Rattle.certificate.specs.Loops.{pick, sumTo}
-use Rattle.network.specs.Roads.{into}
+use Rattle.certificate.specs.Layout.{linksOf, toOf}
+use Rattle.network.specs.Roads.{into, PassedOn}
 
 -- one term more
 pub sum-next : (n : ℕ) (f : ℕ → ℕ) → sumTo (n + 1) f ≡ sumTo n f + f n
 unfolding sumTo
 sum-next n f = rw add-one
 
--- sums has, of each of n links, b and the sum of f over those of the first t turns that lead into it; all stay at most most + t * more
-pub record Summed (n : ℕ) (to f b : ℕ → ℕ) (most more t : ℕ) (sums : List ℕ) : Type 0 where
+-- a sum goes on unchanged where the terms are 0
+pub sum-flat : (m n : ℕ) (f : ℕ → ℕ) → m ≤ n → ((t : ℕ) → m ≤ t → t < n → f t ≡ 0) → sumTo n f ≡ sumTo m f
+unfolding sumTo
+sum-flat m zero f h none = let e : m ≡ 0 = omega arith in rw e refl
+sum-flat m (suc n) f h none =
+    ⊎-elim
+    (λ (e : m ≡ suc n). rw e refl)
+    (λ (l : m < suc n). omega (arith, none n (omega arith) (omega arith), sum-flat m n f (omega arith) (λ t a c. none t a (omega arith))))
+    (eq-or-lt-of-le h)
+
+-- and two sums grow alike where their terms agree
+pub sum-alike : (m n : ℕ) (f g : ℕ → ℕ) → m ≤ n → ((t : ℕ) → m ≤ t → t < n → f t ≡ g t) → sumTo n f + sumTo m g ≡ sumTo n g + sumTo m f
+unfolding sumTo
+sum-alike m zero f g h same = let e : m ≡ 0 = omega arith in rw e refl
+sum-alike m (suc n) f g h same =
+    ⊎-elim
+    (λ (e : m ≡ suc n). rw e (omega arith))
+    (λ (l : m < suc n). omega (arith, same n (omega arith) (omega arith), sum-alike m n f g (omega arith) (λ t a c. same t a (omega arith))))
+    (eq-or-lt-of-le h)
+
+-- sums has, of each of n links, b and the sum of f over those of the first t turns that lead into it, less a; all stay at most most + t * more
+pub record Summed (n : ℕ) (to f a b : ℕ → ℕ) (most more t : ℕ) (sums : List ℕ) : Type 0 where
   pub long : n ≤ length sums
-  pub at : (l : ℕ) → l < n → getD sums l 0 ≡ b l + sumTo t (into to f l)
+  pub at : (l : ℕ) → l < n → getD sums l 0 + a l ≡ b l + sumTo t (into to f l)
   pub fits : (l : ℕ) → l < n → getD sums l 0 ≤ most + t * more
 
-pub summed-none : (n : ℕ) (to f b : ℕ → ℕ) (most more : ℕ) (sums : List ℕ) → n ≤ length sums → ((l : ℕ) → l < n → (getD sums l 0 ≡ b l) × (b l ≤ most))
-    → Summed n to f b most more 0 sums
-unfolding sumTo
-summed-none n to f b most more sums long same =
-    record {
-      long = long;
-      at = λ l h. omega (arith, same l h);
-      fits = λ l h. omega (arith, same l h);
-    }
-
 -- one turn more: v is added to the sum of link k
-pub summed-more : (n : ℕ) (to f b : ℕ → ℕ) (most more t : ℕ) (sums : List ℕ) (k v : ℕ) → Summed n to f b most more t sums → k < n → k ≡ to t → v ≡ f t → v ≤ more
-    → Summed n to f b most more (t + 1) (set sums k (getD sums k 0 + v))
-summed-more n to f b most more t sums k v S hk ek ev hv =
+pub summed-more : (n : ℕ) (to f a b : ℕ → ℕ) (most more t : ℕ) (sums : List ℕ) (k v : ℕ) → Summed n to f a b most more t sums → k < n → k ≡ to t → v ≡ f t → v ≤ more
+    → Summed n to f a b most more (t + 1) (set sums k (getD sums k 0 + v))
+summed-more n to f a b most more t sums k v S hk ek ev hv =
     record {
       long = simp length-set (S .long);
       at = λ l h. rw sum-next (omega (arith, S .at l h, adds l (eqb k l) refl));
@@ -58,6 +70,39 @@ summed-more n to f b most more t sums k v S hk ek ev hv =
     at-most l false = omega arith
 
 -- nothing is added yet to eight zeros
-pub summed-zeros : (n : ℕ) (to f : ℕ → ℕ) (more : ℕ) → n ≤ 8 → Summed n to f (λ _. 0) 0 more 0 (replicate 8 0)
-summed-zeros n to f more h =
-    summed-none n to f (λ _. 0) 0 more (replicate 8 0) h (λ l lt. let z : _≡_ {A = ℕ} (getD (replicate 8 0) l 0) 0 = getD-replicate {A = ℕ} 8 l 0 0 (omega arith) in (z, omega arith))
+pub summed-zeros : (n : ℕ) (to f : ℕ → ℕ) (more : ℕ) → n ≤ 8 → Summed n to f (λ _. 0) (λ _. 0) 0 more 0 (replicate 8 0)
+unfolding sumTo
+summed-zeros n to f more h = record { long = h; at = λ l lt. omega (arith, zero-at l lt); fits = λ l lt. omega (arith, zero-at l lt) }
+  where
+    zero-at : (l : ℕ) → l < n → _≡_ {A = ℕ} (getD (replicate 8 0) l 0) 0
+    zero-at l lt = getD-replicate {A = ℕ} 8 l 0 0 (omega arith)
+
+-- d is taken from link l
+taken-at : (xs : List ℕ) (l k d : ℕ) → l < length xs → d ≤ getD xs l 0 → getD (set xs l (getD xs l 0 - d)) k 0 + pick (eqb k l) d 0 ≡ getD xs k 0
+taken-at xs l k d h le = go (eqb k l) refl
+  where
+    go : (q : Bool) → eqb k l ≡ q → getD (set xs l (getD xs l 0 - d)) k 0 + pick q d 0 ≡ getD xs k 0
+    go true q = let here : k ≡ l = eqb-true _ _ q in rw here (omega (arith, getD-set-same xs l (getD xs l 0 - d) 0 h))
+    go false q = omega (arith, getD-set-other xs l k (getD xs l 0 - d) 0 (eqb-false _ _ q))
+
+-- then the turns from `from` up to t add to what is left
+abbrev pub Passing : List ℕ → (ℕ → ℕ) → ℕ → List ℕ → ℕ → List ℕ → Type 0
+Passing s f from left t sums = Summed (linksOf s) (toOf s) f (λ k. sumTo from (into (toOf s) f k)) (λ k. getD left k 0) 100000000 255000000 t sums
+
+pub passing-none : (s : List ℕ) (f : ℕ → ℕ) (from l d : ℕ) (xs : List ℕ) → linksOf s ≤ length xs → l < linksOf s → d ≤ getD xs l 0
+    → ((k : ℕ) → k < linksOf s → getD xs k 0 ≤ 100000000 + from * 255000000) → Passing s f from (set xs l (getD xs l 0 - d)) from (set xs l (getD xs l 0 - d))
+passing-none s f from l d xs long h le fits =
+    record {
+      long = simp length-set long;
+      at = λ k hk. refl;
+      fits = λ k hk. omega (arith, taken-at xs l k d (omega arith) le, fits k hk);
+    }
+
+pub passing-done : (s : List ℕ) (f : ℕ → ℕ) (from t end l d e : ℕ) (before after : List ℕ) → Passing s f from (set before l (getD before l 0 - d)) t after
+    → t ≡ end → l < length before → d ≤ getD before l 0 → d ≡ e → PassedOn s f from end l e before after
+passing-done s f from t end l d e before after P et h le ed =
+    record {
+      long = P .long;
+      adds = λ k hk. rw (← et, ← ed) (omega (arith, P .at k hk, taken-at before l k d h le));
+      most = rw (← et) (P .fits);
+    }

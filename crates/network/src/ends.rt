@@ -1,11 +1,13 @@
 // The ends of the image of a closed box of queues, before arrivals and with them, in ten thousandths of a vehicle.
 // `start` is where the records of turns begin, `first` has where each link's turns begin, `byte` a signal's green links.
 ghost use mathlib.Core.Path.{_≡_};
-ghost use Prim.Native.Nat.{ℕ, _+_, _*_, _-_, _<_, _≤_, min};
+ghost use Prim.Native.Nat.{ℕ, _+_, _*_, _<_, _≤_, min};
+ghost use lib.Dec.{eqb};
 ghost use lib.ListN.{length};
-ghost use Rattle.certificate.specs.Loops.{sumTo};
-ghost use Rattle.certificate.specs.Layout.{turnsOf, turnsStart, turnAt, turnSize, fromOf, toOf, shareOf};
-ghost use Rattle.network.specs.Roads.{Roads, at, FirstTurns, Spans, WithinCaps, Supplies, limitBy, Mosts, sentBy, into, Side, EndsBefore};
+ghost use Rattle.certificate.specs.Loops.{pick};
+ghost use Rattle.certificate.specs.Layout.{linksOf, turnsOf, shareOf};
+ghost use Rattle.network.specs.Roads.{Roads, at, FirstTurns, WithinCaps, limitBy, TwoLeast, sentBy, PassedOn, Side, EndsBefore};
+use crate::conditions;
 use crate::supply;
 use certificate::turns;
 
@@ -14,83 +16,116 @@ pub struct Ends {
     pub high: [usize; 8],
 }
 
-// What stays on each link: queue − sent.
-fn kept(
-    links: usize,
-    first: &[usize; 9],
-    x: &[usize; 8],
-    most: &[usize; 8],
-    near: &[usize; 32],
-) -> [usize; 8]
-    requires { ⌜ (links ≤ 8) × Spans (now first) × ((l : ℕ) → l < links → (at (now x) l ≤ 10000) × (at (now most) l ≤ 100 * at (now x) l)) ⌝ }
-    ensures { λ r. ⌜ ((l : ℕ) → l < links → at r l ≡ 10000 * at (now (x .entry)) l - 100 * sentBy (now (first .entry)) (now (most .entry)) (now (near .entry)) (now (near .entry)) l 32) ⌝ }
+// Ten thousand times each queue.
+fn scale(links: usize, x: &[usize; 8], ends: &mut [usize; 8])
+    requires { ⌜ (links ≤ 8) × ((l : ℕ) → l < links → at (now x) l ≤ 10000) × (length (now ends) ≡ 8) ⌝ }
+    ensures { λ _. ⌜ (length (now (ends .exit)) ≡ 8) × ((l : ℕ) → l < links → at (now (ends .exit)) l ≡ 10000 * at (now (x .entry)) l) ⌝ }
 {
-    let mut stays = [0usize; 8];
     for l in 0..links {
-        stays[l] = 10000 * x[l] - 100 * supply::sent_by(first, most, near, near, l, 32);
+        ends[l] = 10000 * x[l];
     }
-    stays
 }
 
-// What turn t passes on: share × what its from link sends.
-fn passed_by(
-    s: &[u8],
-    start: usize,
-    first: &[usize; 9],
-    most: &[usize; 8],
-    near: &[usize; 32],
-    far: &[usize; 32],
-    t: usize,
-) -> usize
-    requires { ⌜ (t < 256) × (start ≤ 100000) × (start ≡ turnsStart (now s)) × (fromOf (now s) t < 8) × Spans (now first) × (at (now most) (fromOf (now s) t) ≤ 1000000) × (turnAt (now s) t + turnSize ≤ length (now s)) ⌝ }
-    ensures { λ r. ⌜ (r ≡ shareOf (now (s .entry)) t * sentBy (now (first .entry)) (now (most .entry)) (now (near .entry)) (now (far .entry)) (fromOf (now (s .entry)) t) t) × (r ≤ 255000000) ⌝ }
+// What turn t lets pass: the least of its own supply of `near`, the others' of `far` and the most that its link may send.
+fn sent_by(near: &[usize; 32], far: &[usize; 32], two: supply::Two, most: usize, t: usize) -> usize
+    requires { ⌜ t < 32 ⌝ }
+    ensures { λ r. ⌜ (r ≡ min (min (at (now (near .entry)) t) (pick (eqb (at (now (far .entry)) t) (two .least)) (two .next) (two .least))) most) × (r ≤ most) ⌝ }
 {
-    let j = turns::from_within(s, start, t);
-    turns::share_within(s, start, t) * supply::sent_by(first, most, near, far, j, t)
+    supply::smaller(
+        supply::smaller(near[t], supply::others_of(two, far[t])),
+        most,
+    )
 }
 
-// What stays on each link and what comes in: the turns ascending, each added to its to link.
+// Link l sends, at most `flow`: its own end loses what it sends, and each of its turns from..end adds its share of what it lets
+// pass to its to link. `least` is the least of `near`, `two` the two least of `far`.
 fn pass_on(
     s: &[u8],
     start: usize,
-    turns: usize,
-    links: usize,
-    first: &[usize; 9],
-    most: &[usize; 8],
-    near: &[usize; 32],
-    far: &[usize; 32],
-    stays: [usize; 8],
-) -> [usize; 8]
-    requires { ⌜ Roads (now s) start turns links × Spans (now first) × ((l : ℕ) → l < links → (at (now most) l ≤ 1000000) × (at stays l ≤ 100000000)) ⌝ }
-    ensures { λ r. ⌜ ((l : ℕ) → l < links → (at r l ≡ at stays l + sumTo (turnsOf (now (s .entry))) (into (toOf (now (s .entry))) (λ t. shareOf (now (s .entry)) t * sentBy (now (first .entry)) (now (most .entry)) (now (near .entry)) (now (far .entry)) (fromOf (now (s .entry)) t) t) l)) × (at r l ≤ 10000000000)) ⌝ }
-{
-    let mut ends = stays;
-    for t in 0..turns {
-        let to = turns::to_within(s, start, t);
-        let more = passed_by(s, start, first, most, near, far, t);
-        ends[to] = ends[to] + more;
-    }
-    ends
-}
-
-// One side's ends: x the queues of the side, `near` their supplies, `far` those of the other side's queues.
-fn side(
-    s: &[u8],
-    start: usize,
-    turns: usize,
-    links: usize,
-    byte: usize,
-    first: &[usize; 9],
+    from: usize,
+    end: usize,
+    l: usize,
+    flow: usize,
     x: &[usize; 8],
     near: &[usize; 32],
+    least: usize,
     far: &[usize; 32],
-) -> [usize; 8]
-    requires { ⌜ Roads (now s) start turns links × FirstTurns (now s) (now first) × WithinCaps (now s) (now x) × Supplies (now s) (at (now x)) (now near) ⌝ }
-    ensures { λ r. ⌜ ((other : ℕ → ℕ) → Supplies (now (s .entry)) other (now (far .entry)) → Side (now (s .entry)) (limitBy (now (s .entry)) byte) (at (now (x .entry))) other r) ⌝ }
+    two: supply::Two,
+    ends: &mut [usize; 8],
+)
+    requires { ⌜ Roads (now s) start (turnsOf (now s)) (linksOf (now s)) × (from ≤ end) × (end ≤ turnsOf (now s)) × (l < linksOf (now s)) × (at (now x) l ≤ 10000) × (10000 * at (now x) l ≤ at (now ends) l)
+        × TwoLeast (at (now far)) from end (two .least) (two .next) × (linksOf (now s) ≤ length (now ends)) × ((k : ℕ) → k < linksOf (now s) → at (now ends) k ≤ 100000000 + from * 255000000) ⌝ }
+    ensures { λ _. ⌜ PassedOn (now (s .entry)) (λ t. shareOf (now (s .entry)) t * sentBy (at (now (near .entry))) (at (now (far .entry))) from end (min (100 * at (now (x .entry)) l) flow) t)
+        from end l (100 * min least (min (100 * at (now (x .entry)) l) flow)) (now (ends .entry)) (now (ends .exit)) ⌝ }
 {
-    let most = supply::mosts(s, links, byte, x);
-    let stays = kept(links, first, x, &most, near);
-    pass_on(s, start, turns, links, first, &most, near, far, stays)
+    let most = supply::smaller(100 * x[l], flow);
+    ends[l] = ends[l] - 100 * supply::smaller(least, most);
+    for t in from..end {
+        let to = turns::to_within(s, start, t);
+        let more = turns::share_within(s, start, t) * sent_by(near, far, two, most, t);
+        ends[to] = ends[to] + more;
+    }
+}
+
+// The ends of the low and the high side once link l has sent too: nothing where it is red.
+// `by_lower` and `by_upper` are lent for the supplies of its turns.
+fn send(
+    s: &[u8],
+    start: usize,
+    byte: usize,
+    first: &[usize; 9],
+    lower: &[usize; 8],
+    upper: &[usize; 8],
+    l: usize,
+    by_lower: &mut [usize; 32],
+    by_upper: &mut [usize; 32],
+    low: &mut [usize; 8],
+    high: &mut [usize; 8],
+)
+    requires { ⌜ Roads (now s) start (turnsOf (now s)) (linksOf (now s)) × FirstTurns (now s) (now first) × WithinCaps (now s) (now lower) × WithinCaps (now s) (now upper) × (l < linksOf (now s))
+        × Side (now s) (limitBy (now s) byte) (at (now lower)) (at (now upper)) (now first) l (now low) × Side (now s) (limitBy (now s) byte) (at (now upper)) (at (now lower)) (now first) l (now high)
+        × (length (now «by_lower») ≡ 32) × (length (now «by_upper») ≡ 32) ⌝ }
+    ensures { λ _. ⌜ Side (now (s .entry)) (limitBy (now (s .entry)) byte) (at (now (lower .entry))) (at (now (upper .entry))) (now (first .entry)) (l + 1) (now (low .exit))
+        × Side (now (s .entry)) (limitBy (now (s .entry)) byte) (at (now (upper .entry))) (at (now (lower .entry))) (now (first .entry)) (l + 1) (now (high .exit))
+        × (length (now («by_lower» .exit)) ≡ 32) × (length (now («by_upper» .exit)) ≡ 32) ⌝ }
+{
+    if !conditions::is_green(byte, l) {
+        return;
+    }
+    let from = first[l];
+    let end = first[l + 1];
+    let least = supply::supplies(s, start, from, end, lower, upper, by_lower, by_upper);
+    let lowest = least.lower;
+    let highest = least.upper;
+    let flow = 100 * supply::flow_within(s, l);
+    pass_on(
+        s,
+        start,
+        from,
+        end,
+        l,
+        flow,
+        lower,
+        by_lower,
+        lowest.least,
+        by_upper,
+        highest,
+        low,
+    );
+    pass_on(
+        s,
+        start,
+        from,
+        end,
+        l,
+        flow,
+        upper,
+        by_upper,
+        highest.least,
+        by_lower,
+        lowest,
+        high,
+    );
 }
 
 // The ends of the image of the closed box lower .. upper, before arrivals.
@@ -107,30 +142,27 @@ pub fn ends_of(
     requires { ⌜ Roads (now s) start turns links × FirstTurns (now s) (now first) × WithinCaps (now s) (now lower) × WithinCaps (now s) (now upper) ⌝ }
     ensures { λ r. ⌜ EndsBefore (now (s .entry)) (limitBy (now (s .entry)) byte) (at (now (lower .entry))) (at (now (upper .entry))) (r .low) (r .high) ⌝ }
 {
-    let by_lower = supply::supplies(s, start, turns, links, lower);
-    let by_upper = supply::supplies(s, start, turns, links, upper);
-    let low = side(
-        s,
-        start,
-        turns,
-        links,
-        byte,
-        first,
-        lower,
-        &by_lower,
-        &by_upper,
-    );
-    let high = side(
-        s,
-        start,
-        turns,
-        links,
-        byte,
-        first,
-        upper,
-        &by_upper,
-        &by_lower,
-    );
+    let mut by_lower = [0usize; 32];
+    let mut by_upper = [0usize; 32];
+    let mut low = [0usize; 8];
+    let mut high = [0usize; 8];
+    scale(links, lower, &mut low);
+    scale(links, upper, &mut high);
+    for l in 0..links {
+        send(
+            s,
+            start,
+            byte,
+            first,
+            lower,
+            upper,
+            l,
+            &mut by_lower,
+            &mut by_upper,
+            &mut low,
+            &mut high,
+        );
+    }
     Ends { low, high }
 }
 

@@ -1,15 +1,33 @@
-// What links send. `start` is where the records of turns begin, `byte` has a signal's green links, `x` a queue for each link.
+// What links may send, and what they have room for. `start` is where the records of turns begin; `lower` and `upper` have a
+// queue for each link.
 ghost use mathlib.Core.Path.{_≡_};
-ghost use Prim.Native.Nat.{ℕ, _+_, _*_, _-_, _<_, _≤_, min};
-ghost use lib.Dec.{leb};
+ghost use Prim.Native.Nat.{_+_, _*_, _<_, _≤_, min, max};
+ghost use lib.Dec.{leb, eqb};
 ghost use lib.ListN.{length};
 ghost use Rattle.certificate.specs.Loops.{pick, find};
-ghost use Rattle.certificate.specs.Facts.{Readable};
-ghost use Rattle.certificate.specs.Layout.{linksOf, turnsOf, turnsStart, turnAt, turnSize, capOf, fromOf, toOf, pullOf};
-ghost use Rattle.network.specs.Roads.{Roads, at, FirstTurns, Spans, WithinCaps, Supplies, limitBy, Mosts, sentBy};
-use crate::conditions;
-use certificate::links;
+ghost use Rattle.certificate.specs.Layout.{linkSize, linkAt, linksOf, turnsOf, turnsStart, turnAt, turnSize, capOf, flowOf, fromOf, toOf};
+ghost use Rattle.network.specs.Roads.{Roads, at, FirstTurns, WithinCaps, supplyAt, Supplies, TwoLeast};
+use certificate::limits;
+use certificate::octets;
 use certificate::turns;
+
+// What a link has room for, at lower and at upper queues.
+pub struct Rooms {
+    pub lower: usize,
+    pub upper: usize,
+}
+
+// The least of some numbers, and the least of the others.
+pub struct Two {
+    pub least: usize,
+    pub next: usize,
+}
+
+// The two least supplies of a link's turns, at lower and at upper queues.
+pub struct Least {
+    pub lower: Two,
+    pub upper: Two,
+}
 
 pub fn smaller(a: usize, b: usize) -> usize
     ensures { λ r. ⌜ r ≡ min a b ⌝ }
@@ -17,13 +35,10 @@ pub fn smaller(a: usize, b: usize) -> usize
     if a < b { a } else { b }
 }
 
-fn choose(first: bool, a: usize, b: usize) -> usize
-    ensures { λ r. ⌜ r ≡ pick first a b ⌝ }
+fn larger(a: usize, b: usize) -> usize
+    ensures { λ r. ⌜ r ≡ max a b ⌝ }
 {
-    if first {
-        return a;
-    }
-    b
+    if a < b { b } else { a }
 }
 
 // The first turn from link j or a later one, and the number of turns where there is none.
@@ -51,66 +66,89 @@ pub fn first_turns(s: &[u8], start: usize, turns: usize) -> [usize; 9]
     first
 }
 
-// What the to link of turn t has room for: pull × (cap − queue), in hundredths.
-fn supply_of(s: &[u8], start: usize, t: usize, x: &[usize; 8]) -> usize
-    requires { ⌜ (t < 256) × (start ≤ 100000) × (start ≡ turnsStart (now s)) × (toOf (now s) t < 8) × (at (now x) (toOf (now s) t) ≤ capOf (now s) (toOf (now s) t)) × (turnAt (now s) t + turnSize ≤ length (now s)) ⌝ }
-    ensures { λ r. ⌜ r ≡ pullOf (now (s .entry)) t * (capOf (now (s .entry)) (toOf (now (s .entry)) t) - at (now (x .entry)) (toOf (now (s .entry)) t)) ⌝ }
+// The cap of a link that is there whole: no test.
+fn cap_within(s: &[u8], l: usize) -> usize
+    requires { ⌜ (l < 256) × (linkAt l + linkSize ≤ length (now s)) ⌝ }
+    ensures { λ r. ⌜ (r ≡ capOf (now (s .entry)) l) × (r < 65536) ⌝ }
+{
+    octets::u16_within(s, limits::HEADER_SIZE + limits::LINK_SIZE * l + 4)
+}
+
+// The same of its flow.
+pub fn flow_within(s: &[u8], l: usize) -> usize
+    requires { ⌜ (l < 256) × (linkAt l + linkSize ≤ length (now s)) ⌝ }
+    ensures { λ r. ⌜ (r ≡ flowOf (now (s .entry)) l) × (r < 65536) ⌝ }
+{
+    octets::u16_within(s, limits::HEADER_SIZE + limits::LINK_SIZE * l + 6)
+}
+
+// What the to link of turn t has room for at lower and at upper queues: pull × (cap − queue), in hundredths.
+fn rooms_of(s: &[u8], start: usize, t: usize, lower: &[usize; 8], upper: &[usize; 8]) -> Rooms
+    requires { ⌜ (t < 256) × (start ≤ 100000) × (start ≡ turnsStart (now s)) × (toOf (now s) t < 8) × (at (now lower) (toOf (now s) t) ≤ capOf (now s) (toOf (now s) t)) × (at (now upper) (toOf (now s) t) ≤ capOf (now s) (toOf (now s) t)) × (turnAt (now s) t + turnSize ≤ length (now s)) × (linkAt (toOf (now s) t) + linkSize ≤ length (now s)) ⌝ }
+    ensures { λ r. ⌜ (r .lower ≡ supplyAt (now (s .entry)) (at (now (lower .entry))) t) × (r .upper ≡ supplyAt (now (s .entry)) (at (now (upper .entry))) t) ⌝ }
 {
     let to = turns::to_within(s, start, t);
-    let room = links::cap_of(s, to) - x[to];
-    turns::pull_within(s, start, t) * room
+    let cap = cap_within(s, to);
+    let pull = turns::pull_within(s, start, t);
+    let by_lower = pull * (cap - lower[to]);
+    let by_upper = pull * (cap - upper[to]);
+    Rooms {
+        lower: by_lower,
+        upper: by_upper,
+    }
 }
 
-pub fn supplies(s: &[u8], start: usize, turns: usize, links: usize, x: &[usize; 8]) -> [usize; 32]
-    requires { ⌜ Roads (now s) start turns links × WithinCaps (now s) (now x) ⌝ }
-    ensures { λ r. ⌜ Supplies (now (s .entry)) (at (now (x .entry))) r ⌝ }
+// The two least of some numbers and one more.
+fn two_with(two: Two, v: usize) -> Two
+    ensures { λ r. ⌜ (r .least ≡ min v (two .least)) × (r .next ≡ min (max v (two .least)) (two .next)) ⌝ }
 {
-    let mut rooms = [0usize; 32];
-    for t in 0..turns {
-        rooms[t] = supply_of(s, start, t, x);
-    }
-    rooms
+    let least = smaller(v, two.least);
+    let next = smaller(larger(v, two.least), two.next);
+    Two { least, next }
 }
 
-// The most that link l may send: its flow where it is green, else 0.
-fn limit_of(s: &[u8], byte: usize, l: usize) -> usize
-    requires { ⌜ l < 8 ⌝ }
-    ensures { λ r. ⌜ (r ≡ limitBy (now (s .entry)) byte l) × (r < 65536) ⌝ }
+// The least of the others, where v is one of the numbers.
+pub fn others_of(two: Two, v: usize) -> usize
+    ensures { λ r. ⌜ r ≡ pick (eqb v (two .least)) (two .next) (two .least) ⌝ }
 {
-    if conditions::is_green(byte, l) {
-        return links::flow_of(s, l);
+    if v == two.least {
+        return two.next;
     }
-    0
+    two.least
 }
 
-// The lesser of each link's queue and its limit, in hundredths.
-pub fn mosts(s: &[u8], links: usize, byte: usize, x: &[usize; 8]) -> [usize; 8]
-    requires { ⌜ Readable (now s) × (links ≡ linksOf (now s)) × WithinCaps (now s) (now x) ⌝ }
-    ensures { λ r. ⌜ Mosts (now (s .entry)) byte (now (x .entry)) r ⌝ }
+// The supplies of the turns from..end, and the two least of them. No link sends more than 1,000,000 hundredths.
+pub fn supplies(
+    s: &[u8],
+    start: usize,
+    from: usize,
+    end: usize,
+    lower: &[usize; 8],
+    upper: &[usize; 8],
+    by_lower: &mut [usize; 32],
+    by_upper: &mut [usize; 32],
+) -> Least
+    requires { ⌜ Roads (now s) start (turnsOf (now s)) (linksOf (now s)) × (from ≤ end) × (end ≤ turnsOf (now s)) × WithinCaps (now s) (now lower) × WithinCaps (now s) (now upper) × (length (now «by_lower») ≡ 32) × (length (now «by_upper») ≡ 32) ⌝ }
+    ensures { λ r. ⌜ Supplies (now (s .entry)) (at (now (lower .entry))) from end (now («by_lower» .exit)) × Supplies (now (s .entry)) (at (now (upper .entry))) from end (now («by_upper» .exit))
+        × TwoLeast (supplyAt (now (s .entry)) (at (now (lower .entry)))) from end (r .lower .least) (r .lower .next) × TwoLeast (supplyAt (now (s .entry)) (at (now (upper .entry)))) from end (r .upper .least) (r .upper .next) ⌝ }
 {
-    let mut most = [0usize; 8];
-    for l in 0..links {
-        most[l] = smaller(100 * x[l], 100 * limit_of(s, byte, l));
+    let mut lowest = Two {
+        least: 1000000,
+        next: 1000000,
+    };
+    let mut highest = Two {
+        least: 1000000,
+        next: 1000000,
+    };
+    for t in from..end {
+        let rooms = rooms_of(s, start, t, lower, upper);
+        by_lower[t] = rooms.lower;
+        by_upper[t] = rooms.upper;
+        lowest = two_with(lowest, rooms.lower);
+        highest = two_with(highest, rooms.upper);
     }
-    most
-}
-
-// What link j sends, with turn t's supply of `near` and the others' of `far`.
-pub fn sent_by(
-    first: &[usize; 9],
-    most: &[usize; 8],
-    near: &[usize; 32],
-    far: &[usize; 32],
-    j: usize,
-    t: usize,
-) -> usize
-    requires { ⌜ (j < 8) × Spans (now first) ⌝ }
-    ensures { λ r. ⌜ (r ≡ sentBy (now (first .entry)) (now (most .entry)) (now (near .entry)) (now (far .entry)) j t) × (r ≤ at (now (most .entry)) j) ⌝ }
-{
-    let mut least = most[j];
-    let end = first[j + 1];
-    for u in first[j]..end {
-        least = smaller(choose(u == t, near[u], far[u]), least);
+    Least {
+        lower: lowest,
+        upper: highest,
     }
-    least
 }

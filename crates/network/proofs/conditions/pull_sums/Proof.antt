@@ -14,7 +14,7 @@ use Rattle.network.proofs.conditions.pull_sums.Tie as tie
 
 abbrev Inv-loop : tie.InvT-loop
 Inv-loop s start turns links byte sums₀ t₀ sums t =
-    (t ≤ turns) × Summed links (toOf s) (λ u. pick (bitOf byte (fromOf s u)) (shareOf s u * pullOf s u) 0) (λ _. 0) 0 16711425 t sums
+    (t ≤ turns) × Summed links (toOf s) (λ u. pick (bitOf byte (fromOf s u)) (shareOf s u * pullOf s u) 0) (λ _. 0) (λ _. 0) 0 16711425 t sums
 
 abbrev μ-loop : tie.MeasureT-loop
 μ-loop s start turns links byte sums₀ t₀ sums t = turns - t
@@ -54,7 +54,7 @@ loop-less : tie.Need-loop-less Inv-loop μ-loop
 loop-less c = search needs
 
 loop-again : tie.Need-loop-again Inv-loop μ-loop
-loop-again c = (search needs, summed-more _ _ _ _ _ _ _ _ _ _ (c .before .before .before .loop .inv .1) (to-here (c .before)) (c .before .to-within .ensures .0) (c .green-pull .ensures .0) (c .green-pull .ensures .1))
+loop-again c = (search needs, summed-more _ _ _ _ _ _ _ _ _ _ _ (c .before .before .before .loop .inv .1) (to-here (c .before)) (c .before .to-within .ensures .0) (c .green-pull .ensures .0) (c .green-pull .ensures .1))
 
 returns : tie.Need-returns Inv-loop μ-loop
 unfolding pullSum

@@ -1,56 +1,107 @@
 -- `network::ends::pass_on` meets its contract. Assumes nothing.
-use Prim.Native.Nat.{_*_, _-_, _≤_, _<_}
-use mathlib.Core.Path.{_≡_, refl}
+use Prim.Native.Nat.{_*_, _-_, _≤_, _<_, min}
+use mathlib.Core.Path.{refl}
 use native.Mathlib.Omega.{arith}
 use borrow.Author.Needs.{needs}
-use lib.ListN.{length}
-use Rattle.certificate.specs.Layout.{turnsOf, fromOf, toOf, shareOf}
+use Rattle.certificate.specs.Layout.{linksOf, turnsOf, shareOf}
 use Rattle.network.specs.Roads.{at, sentBy}
-use Rattle.network.proofs.Bounds.{turns-most, links-most, from-link, to-link, turn-whole}
-use Rattle.network.proofs.Summing.{Summed, summed-none, summed-more}
+use Rattle.network.proofs.Bounds.{turns-most, links-most, to-link, turn-whole}
+use Rattle.network.proofs.Fitting.{product-most}
+use Rattle.network.proofs.Picking.{times-same}
+use Rattle.network.proofs.Summing.{Passing, passing-none, passing-done, summed-more}
+use Rattle.network.proofs.TwoLeast.{sent-two}
 use Rattle.network.proofs.ends.pass_on.Statement.{statement}
 use Rattle.network.proofs.ends.pass_on.Tie as tie
 
 abbrev Inv-loop : tie.InvT-loop
-Inv-loop s start turns links first most near far ends₀ t₀ ends t = (t ≤ turns) × Summed links (toOf s) (λ u. shareOf s u * sentBy first most near far (fromOf s u) u) (at ends₀) 100000000 255000000 t ends
+Inv-loop s start from end l flow x near least far two ends₀ most t₀ ends t =
+    (from ≤ t) × (t ≤ end) × Passing s (λ u. shareOf s u * sentBy (at near) (at far) from end (min (100 * at x l) flow) u) from ends₀ t ends
 
 abbrev μ-loop : tie.MeasureT-loop
-μ-loop s start turns links first most near far ends₀ t₀ ends t = turns - t
+μ-loop s start from end l flow x near least far two ends₀ most t₀ ends t = end - t
 
-loop-holds : tie.Need-loop-holds Inv-loop μ-loop
-loop-holds c = (search needs, summed-none _ _ _ _ _ _ _ (let long : length (c .before .args .stays) ≡ 8 = search needs in omega (arith, links-most (c .before .pre .0))) (λ l h. (refl, c .before .pre .2 l h .1)))
+mul-smaller : tie.Need-mul-smaller Inv-loop μ-loop
+mul-smaller c = search needs
 
-to-within-requires : tie.Need-to-within-requires Inv-loop μ-loop
-to-within-requires c κs = (search needs, search needs, search needs, turn-whole (c .before .before .before .pre .0) (c .before .loop .t) (c .loop-test .taken))
+element-copy-out-smaller : tie.Need-element-copy-out-smaller Inv-loop μ-loop
+element-copy-out-smaller c = search needs
 
--- the turn's links are among the links
-to-here : (c : tie.After-to-within Inv-loop μ-loop) → c .to-within .result < c .before .before .before .before .args .links
-to-here c = omega (arith, to-link (c .before .before .before .before .pre .0) (c .before .before .loop .t) (c .before .loop-test .taken))
+mul-smaller-2 : tie.Need-mul-smaller-2 Inv-loop μ-loop
+mul-smaller-2 c = search needs
 
-among : (c : tie.After-passed-by Inv-loop μ-loop) → c .before .to-within .result < 8
-among c = omega (arith, to-here (c .before), links-most (c .before .before .before .before .before .pre .0))
-
-passed-by-requires : tie.Need-passed-by-requires Inv-loop μ-loop
-passed-by-requires c κs =
-    let start = c .before .before .before .before in
-    let R = start .pre .0 in
-    let from = from-link R (c .before .before .loop .t) (c .before .loop-test .taken) in
-    (omega (arith, turns-most R), search needs, search needs, omega (arith, links-most R), start .pre .1, start .pre .2 _ from .0, turn-whole R (c .before .before .loop .t) (c .before .loop-test .taken))
+smaller-requires : tie.Need-smaller-requires Inv-loop μ-loop
+smaller-requires c κs = search needs
 
 mul-ends : tie.Need-mul-ends Inv-loop μ-loop
 mul-ends c = search needs
 
-array-read-ends : tie.Need-array-read-ends Inv-loop μ-loop
-array-read-ends c = among c
+element-copy-out-ends : tie.Need-element-copy-out-ends Inv-loop μ-loop
+element-copy-out-ends c = search needs
 
-add-ends : tie.Need-add-ends Inv-loop μ-loop
-add-ends c = omega (arith, c .before .before .before .loop .inv .1 .fits (c .before .to-within .result) (to-here (c .before)), turns-most (c .before .before .before .before .before .pre .0))
+smaller-requires-2 : tie.Need-smaller-requires-2 Inv-loop μ-loop
+smaller-requires-2 c κs = search needs
 
 mul-ends-2 : tie.Need-mul-ends-2 Inv-loop μ-loop
-mul-ends-2 c = search needs
+mul-ends-2 c = omega arith
 
-array-write-ends : tie.Need-array-write-ends Inv-loop μ-loop
-array-write-ends c = among c
+sub-ends : tie.Need-sub-ends Inv-loop μ-loop
+sub-ends c = omega arith
+
+mul-ends-3 : tie.Need-mul-ends-3 Inv-loop μ-loop
+mul-ends-3 c = search needs
+
+element-write-ends : tie.Need-element-write-ends Inv-loop μ-loop
+element-write-ends c = search needs
+
+loop-holds : tie.Need-loop-holds Inv-loop μ-loop
+loop-holds c =
+    let start = c .before .before .before .before .before in
+    (search needs, search needs, passing-none (start .args .s .now) _ (start .args .from) (start .args .l) (100 * c .smaller2 .result) (start .args .ends .now) (start .pre .7) (start .pre .3) (omega arith) (start .pre .8))
+
+there : (c : tie.In-loop Inv-loop μ-loop) → c .before .loop .t < turnsOf (c .before .before .before .before .before .before .before .args .s .now)
+there c = omega arith
+
+to-within-requires : tie.Need-to-within-requires Inv-loop μ-loop
+to-within-requires c κs =
+    let R = c .before .before .before .before .before .before .before .pre .0 in
+    (omega (arith, turns-most R), search needs, search needs, turn-whole R (c .before .loop .t) (there c))
+
+-- the turn's to link is one of the links
+to-here : (c : tie.After-to-within Inv-loop μ-loop) → c .to-within .result < linksOf (c .before .before .before .before .before .before .before .before .args .s .now)
+to-here c = omega (arith, to-link (c .before .before .before .before .before .before .before .before .pre .0) (c .before .before .loop .t) (there (c .before)))
+
+share-within-requires : tie.Need-share-within-requires Inv-loop μ-loop
+share-within-requires c κs =
+    let R = c .before .before .before .before .before .before .before .before .pre .0 in
+    (omega (arith, turns-most R), search needs, search needs, turn-whole R (c .before .before .loop .t) (there (c .before)))
+
+sent-by-requires : tie.Need-sent-by-requires Inv-loop μ-loop
+sent-by-requires c κs = omega arith
+
+-- no link sends more than a million
+small : (c : tie.After-sent-by Inv-loop μ-loop) → min (100 * at (c .before .before .before .before .before .before .before .before .before .before .args .x .now) (c .before .before .before .before .before .before .before .before .before .before .args .l)) (c .before .before .before .before .before .before .before .before .before .before .args .flow) ≤ 1000000
+small c = omega arith
+
+size : (c : tie.After-sent-by Inv-loop μ-loop) → c .before .share-within .result * c .sent-by .result ≤ 255000000
+size c = product-most 255 1000000 (omega arith) (omega (arith, small c))
+
+mul-more : tie.Need-mul-more Inv-loop μ-loop
+mul-more c = omega (arith, size c)
+
+mul-ends-4 : tie.Need-mul-ends-4 Inv-loop μ-loop
+mul-ends-4 c = omega arith
+
+element-copy-out-ends-2 : tie.Need-element-copy-out-ends-2 Inv-loop μ-loop
+element-copy-out-ends-2 c = omega (arith, to-here (c .before .before), links-most (c .before .before .before .before .before .before .before .before .before .before .pre .0))
+
+add-ends : tie.Need-add-ends Inv-loop μ-loop
+add-ends c = omega (arith, size (c .before), c .before .before .before .before .before .loop .inv .2 .fits (c .before .before .before .to-within .result) (to-here (c .before .before .before)), turns-most (c .before .before .before .before .before .before .before .before .before .before .before .pre .0))
+
+mul-ends-5 : tie.Need-mul-ends-5 Inv-loop μ-loop
+mul-ends-5 c = search needs
+
+element-write-ends-2 : tie.Need-element-write-ends-2 Inv-loop μ-loop
+element-write-ends-2 c = omega (arith, to-here (c .before .before .before), links-most (c .before .before .before .before .before .before .before .before .before .before .before .pre .0))
 
 add-t : tie.Need-add-t Inv-loop μ-loop
 add-t c = search needs
@@ -59,13 +110,17 @@ loop-less : tie.Need-loop-less Inv-loop μ-loop
 loop-less c = search needs
 
 loop-again : tie.Need-loop-again Inv-loop μ-loop
-loop-again c = (search needs, summed-more _ _ _ _ _ _ _ _ _ _ (c .before .before .before .loop .inv .1) (to-here (c .before)) (c .before .to-within .ensures .0) (c .passed-by .ensures .0) (c .passed-by .ensures .1))
+loop-again c =
+    let inv = c .before .before .before .before .before .loop .inv in
+    let start = c .before .before .before .before .before .before .before .before .before .before .before in
+    (omega arith, omega arith, summed-more _ _ _ _ _ _ _ _ _ _ _ (inv .2) (to-here (c .before .before .before)) (c .before .before .before .to-within .ensures .0) (times-same _ _ _ _ (c .before .before .share-within .ensures .0) (sent-two _ _ _ _ _ _ _ _ _ _ (start .pre .6) (c .before .before .before .before .before .before .before .before .smaller .ensures) (small (c .before)) (inv .0) (omega arith) (c .before .sent-by .ensures .0))) (size (c .before)))
 
 returns : tie.Need-returns Inv-loop μ-loop
-returns c = λ l h.
-    let inv = c .before .loop .inv .1 in
-    let done : c .before .loop .t ≡ turnsOf (c .before .before .before .args .s .now) = omega arith in
-    (rw (← done) (inv .at l h), omega (arith, inv .fits l h, turns-most (c .before .before .before .pre .0)))
+returns c =
+    let start = c .before .before .before .before .before .before .before in
+    let inv = c .before .loop .inv in
+    passing-done (start .args .s .now) _ (start .args .from) (c .before .loop .t) (start .args .end) (start .args .l) (100 * c .before .before .smaller2 .result) _ (start .args .ends .now) _
+    (inv .2) (omega arith) (omega (arith, start .pre .7)) (omega arith) (rw (c .before .before .smaller2 .ensures, c .before .before .before .before .smaller .ensures) refl)
 
 pub pass-on-spec : {M : Type 1} → statement M
 pass-on-spec =
@@ -73,14 +128,27 @@ pass-on-spec =
     (tie.spec
     Inv-loop
     μ-loop
+    mul-smaller
+    element-copy-out-smaller
+    mul-smaller-2
+    smaller-requires
+    mul-ends
+    element-copy-out-ends
+    smaller-requires-2
+    mul-ends-2
+    sub-ends
+    mul-ends-3
+    element-write-ends
     loop-holds
     to-within-requires
-    passed-by-requires
-    mul-ends
-    array-read-ends
+    share-within-requires
+    sent-by-requires
+    mul-more
+    mul-ends-4
+    element-copy-out-ends-2
     add-ends
-    mul-ends-2
-    array-write-ends
+    mul-ends-5
+    element-write-ends-2
     add-t
     loop-less
     loop-again

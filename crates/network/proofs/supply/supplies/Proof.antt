@@ -1,47 +1,78 @@
 -- `network::supply::supplies` meets its contract. Assumes nothing.
-use Prim.Native.Nat.{_*_, _-_, _≤_}
-use mathlib.Core.Path.{refl}
+use Prim.Native.Nat.{_-_, _≤_, _<_}
+use mathlib.Core.Path.{_≡_}
 use native.Mathlib.Omega.{arith}
 use borrow.Author.Needs.{needs}
-use Rattle.certificate.specs.Layout.{capOf, toOf, pullOf}
-use Rattle.network.specs.Roads.{at}
-use Rattle.network.proofs.Bounds.{turns-most, to-most, to-link, turn-whole}
+use Rattle.certificate.specs.Layout.{turnsOf}
+use Rattle.network.specs.Roads.{at, supplyAt, TwoLeast}
+use Rattle.network.proofs.Bounds.{turns-most, to-most, to-link, turn-whole, link-whole}
 use Rattle.network.proofs.Filling.{Filled, filled-none, filled-more}
+use Rattle.network.proofs.TwoLeast.{two-none, two-more}
 use Rattle.network.proofs.supply.supplies.Statement.{statement}
 use Rattle.network.proofs.supply.supplies.Tie as tie
 
 abbrev Inv-loop : tie.InvT-loop
-Inv-loop s start turns links x rooms₀ t₀ rooms t = (t ≤ turns) × Filled 32 (λ u. pullOf s u * (capOf s (toOf s u) - at x (toOf s u))) t rooms
+Inv-loop s start from end lower upper by-lower₀ by-upper₀ lowest₀ highest₀ t₀ by-lower by-upper lowest highest t =
+    (from ≤ t) × (t ≤ end) × Filled 32 (supplyAt s (at lower)) from t by-lower × Filled 32 (supplyAt s (at upper)) from t by-upper
+    × TwoLeast (supplyAt s (at lower)) from t (lowest .least) (lowest .next) × TwoLeast (supplyAt s (at upper)) from t (highest .least) (highest .next)
 
 abbrev μ-loop : tie.MeasureT-loop
-μ-loop s start turns links x rooms₀ t₀ rooms t = turns - t
+μ-loop s start from end lower upper by-lower₀ by-upper₀ lowest₀ highest₀ t₀ by-lower by-upper lowest highest t = end - t
 
 loop-holds : tie.Need-loop-holds Inv-loop μ-loop
-loop-holds c = (search needs, filled-none _ _ _ refl)
+loop-holds c = (search needs, search needs, filled-none _ _ _ _ (c .before .pre .5), filled-none _ _ _ _ (c .before .pre .6), two-none _ _, two-none _ _)
 
-supply-of-requires : tie.Need-supply-of-requires Inv-loop μ-loop
-supply-of-requires c κs =
-    let R = c .before .before .before .pre .0 in
+rooms-of-requires : tie.Need-rooms-of-requires Inv-loop μ-loop
+rooms-of-requires c κs =
+    let start = c .before .before .before in
+    let R = start .pre .0 in
     let t = c .before .loop .t in
-    (omega (arith, turns-most R), search needs, search needs, to-most R t (c .loop-test .taken), c .before .before .before .pre .1 .fits _ (omega (arith, to-link R t (c .loop-test .taken))), turn-whole R t (c .loop-test .taken))
+    let there : t < turnsOf (start .args .s .now) = omega arith in
+    (omega (arith, turns-most R), search needs, search needs, to-most R t there, start .pre .3 .fits _ (to-link R t there), start .pre .4 .fits _ (to-link R t there), turn-whole R t there, link-whole R _ (to-link R t there))
 
-mul-rooms : tie.Need-mul-rooms Inv-loop μ-loop
-mul-rooms c = search needs
+mul-by-lower : tie.Need-mul-by-lower Inv-loop μ-loop
+mul-by-lower c = omega arith
 
-array-write-rooms : tie.Need-array-write-rooms Inv-loop μ-loop
-array-write-rooms c = omega (arith, turns-most (c .before .before .before .before .pre .0))
+element-write-by-lower : tie.Need-element-write-by-lower Inv-loop μ-loop
+element-write-by-lower c = omega (arith, turns-most (c .before .before .before .before .pre .0))
+
+mul-by-upper : tie.Need-mul-by-upper Inv-loop μ-loop
+mul-by-upper c = omega arith
+
+element-write-by-upper : tie.Need-element-write-by-upper Inv-loop μ-loop
+element-write-by-upper c = omega (arith, turns-most (c .before .before .before .before .pre .0))
+
+two-with-requires : tie.Need-two-with-requires Inv-loop μ-loop
+two-with-requires c κs = search needs
+
+two-with-requires-2 : tie.Need-two-with-requires-2 Inv-loop μ-loop
+two-with-requires-2 c κs = search needs
 
 add-t : tie.Need-add-t Inv-loop μ-loop
 add-t c = search needs
 
 loop-less : tie.Need-loop-less Inv-loop μ-loop
-loop-less c = search needs
+loop-less c = omega arith
 
 loop-again : tie.Need-loop-again Inv-loop μ-loop
-loop-again c = (search needs, filled-more _ _ _ _ _ (c .before .before .loop .inv .1) (omega (arith, turns-most (c .before .before .before .before .pre .0))) (c .supply-of .ensures))
+loop-again c =
+    let inv = c .before .before .before .before .loop .inv in
+    let rooms = c .before .before .rooms-of .ensures in
+    let t = c .before .before .before .before .loop .t in
+    let here : t < 32 = omega (arith, turns-most (c .before .before .before .before .before .before .pre .0)) in (
+      omega arith,
+      omega arith,
+      filled-more _ _ _ _ _ _ (inv .2) here (rooms .0),
+      filled-more _ _ _ _ _ _ (inv .3) here (rooms .1),
+      two-more _ _ _ _ _ _ _ _ (inv .4) (inv .0) (rooms .0) (c .before .two-with .ensures .0) (c .before .two-with .ensures .1),
+      two-more _ _ _ _ _ _ _ _ (inv .5) (inv .0) (rooms .1) (c .two-with2 .ensures .0) (c .two-with2 .ensures .1),
+    )
 
 returns : tie.Need-returns Inv-loop μ-loop
-returns c = record { room = λ t h. c .before .loop .inv .1 .at t (omega arith) }
+returns c =
+    let inv = c .before .loop .inv in
+    let done : c .before .loop .t ≡ c .before .before .before .args .end = omega arith in
+    (record { long = inv .2 .long; room = λ t le lt. inv .2 .at t le (omega arith) }, record { long = inv .3 .long; room = λ t le lt. inv .3 .at t le (omega arith) }, rw (← done) (inv .4), rw (← done) (inv .5))
 
 pub supplies-spec : {M : Type 1} → statement M
 supplies-spec =
@@ -50,9 +81,13 @@ supplies-spec =
     Inv-loop
     μ-loop
     loop-holds
-    supply-of-requires
-    mul-rooms
-    array-write-rooms
+    rooms-of-requires
+    mul-by-lower
+    element-write-by-lower
+    mul-by-upper
+    element-write-by-upper
+    two-with-requires
+    two-with-requires-2
     add-t
     loop-less
     loop-again
