@@ -1,13 +1,10 @@
--- Tables that are filled entry by entry: the table of edges and that of intervals. Assumes nothing.
+-- The entries of the table of edges and of that of intervals. Assumes nothing.
 use Prim.Native.Nat.{ℕ, zero, suc, _+_, _*_, _-_, _/_, _%_, _≤_, _<_}
 use mathlib.Core.List.{List}
 use mathlib.Core.Path.{_≡_, refl, sym, _∙_}
 use native.Mathlib.Numerals.{add-one}
 use native.Mathlib.Omega.{arith}
-use borrow.Author.Count.{below-more}
 use borrow.Author.Tests.{lt-ltb, le-ltb}
-use lib.ListN.{length, getD, set, length-set}
-use lib.Seq.{getD-set-same, getD-set-other}
 use Rattle.certificate.specs.Layout.{linksOf, capOf, gridAt, countAt, cutAt, intervalsOf, cellsOf}
 use Rattle.certificate.specs.Records.{cutBefore}
 use Rattle.certificate.specs.Facts.{Readable}
@@ -17,23 +14,6 @@ use Rattle.grid.specs.Intervals.{lowerEdge, upperEdge}
 use Rattle.grid.specs.Tables.{Holds, edgeOf, EdgesOf, weightOf, digitEntry, DigitsOf}
 use Rattle.grid.proofs.Edges.{upper-inner, upper-last}
 use Rattle.grid.proofs.Blocks.{interval-quotient}
-
--- a table of that size has the property P at each of its first n entries, and at one more
-abbrev pub Each : ℕ → ℕ → (ℕ → ℕ → Type 0) → List ℕ → Type 0
-Each size n P a = (length a ≡ size) × ((k : ℕ) → k < n → P k (getD a k 0))
-
-pub each-more : (size n : ℕ) (P : ℕ → ℕ → Type 0) (a : List ℕ) (v : ℕ) → Each size n P a → n < size → P n v → Each size (n + 1) P (set a n v)
-each-more size n P a v h lt p = (
-  length-set a n v ∙ h .0,
-  below-more (λ k. P k (getD (set a n v) k 0)) n (λ k below. rw (getD-set-other a n k v 0 (λ z. omega arith)) (h .1 k below)) (rw (getD-set-same a n v 0 (omega arith)) p),
-)
-
--- the entries are those of f
-abbrev pub Filled : ℕ → ℕ → (ℕ → ℕ) → List ℕ → Type 0
-Filled size n f a = Each size n (λ k v. v ≡ f k) a
-
-pub filled-more : (size n : ℕ) (f : ℕ → ℕ) (a : List ℕ) (v : ℕ) → Filled size n f a → n < size → v ≡ f n → Filled size (n + 1) f (set a n v)
-filled-more size n f a v h lt e = each-more size n (λ k v. v ≡ f k) a v h lt e
 
 -- a grid record starts within a certificate
 pub grid-place : (s : List ℕ) → Readable s → (l : ℕ) → l < linksOf s → gridAt s l ≤ 100000

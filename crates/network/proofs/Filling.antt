@@ -1,27 +1,25 @@
--- An array that is filled from the front, one element after another. Assumes nothing.
-use Prim.Native.Nat.{ℕ, _+_, _≤_, _<_}
+-- A table that is filled from the front, one entry after another. Assumes nothing.
+use Prim.Native.Nat.{ℕ, _+_, _<_}
 use mathlib.Core.List.{List}
 use mathlib.Core.Path.{_≡_, _∙_}
-use mathlib.Core.Logic.{⊎-elim}
-use native.Mathlib.Nat.{eq-or-lt-of-le}
 use native.Mathlib.Omega.{arith}
+use borrow.Author.Count.{below-more}
 use lib.ListN.{length, getD, set, length-set}
 use lib.Seq.{getD-set-same, getD-set-other}
 
--- the elements from `from` up to t, of n, are those of f
-pub record Filled (n : ℕ) (f : ℕ → ℕ) (from t : ℕ) (xs : List ℕ) : Type 0 where
-  pub long : length xs ≡ n
-  pub at : (u : ℕ) → from ≤ u → u < t → getD xs u 0 ≡ f u
+-- a table of that size has the property P at each of its first n entries, and at one more
+abbrev pub Each : ℕ → ℕ → (ℕ → ℕ → Type 0) → List ℕ → Type 0
+Each size n P a = (length a ≡ size) × ((k : ℕ) → k < n → P k (getD a k 0))
 
-pub filled-none : (n : ℕ) (f : ℕ → ℕ) (from : ℕ) (xs : List ℕ) → length xs ≡ n → Filled n f from from xs
-filled-none n f from xs e = record { long = e; at = λ u le lt. absurd (omega arith) }
+pub each-more : (size n : ℕ) (P : ℕ → ℕ → Type 0) (a : List ℕ) (v : ℕ) → Each size n P a → n < size → P n v → Each size (n + 1) P (set a n v)
+each-more size n P a v h lt p = (
+  length-set a n v ∙ h .0,
+  below-more (λ k. P k (getD (set a n v) k 0)) n (λ k below. rw (getD-set-other a n k v 0 (λ z. omega arith)) (h .1 k below)) (rw (getD-set-same a n v 0 (omega arith)) p),
+)
 
-pub filled-more : (n : ℕ) (f : ℕ → ℕ) (from t v : ℕ) (xs : List ℕ) → Filled n f from t xs → t < n → v ≡ f t → Filled n f from (t + 1) (set xs t v)
-filled-more n f from t v xs F h e =
-    record {
-      long = simp length-set (F .long);
-      at = λ u le lt. ⊎-elim
-          (λ (s : u ≡ t). rw (s, ← e) (getD-set-same xs t v 0 (omega (arith, F .long))))
-          (λ (l : u < t). getD-set-other xs t u v 0 (λ s. omega arith) ∙ F .at u le l)
-          (eq-or-lt-of-le (let most : u ≤ t = omega arith in most));
-    }
+-- the entries are those of f
+abbrev pub Filled : ℕ → ℕ → (ℕ → ℕ) → List ℕ → Type 0
+Filled size n f a = Each size n (λ k v. v ≡ f k) a
+
+pub filled-more : (size n : ℕ) (f : ℕ → ℕ) (a : List ℕ) (v : ℕ) → Filled size n f a → n < size → v ≡ f n → Filled size (n + 1) f (set a n v)
+filled-more size n f a v h lt e = each-more size n (λ k v. v ≡ f k) a v h lt e

@@ -5,7 +5,8 @@ use native.Mathlib.Omega.{arith}
 use borrow.Author.Count.{below-none}
 use Rattle.certificate.proofs.Size.{cells-in-range}
 use Rattle.grid.specs.Tables.{digitEntry}
-use Rattle.grid.proofs.Filling.{Filled, filled-more, digits-filled}
+use Rattle.network.proofs.Filling.{Filled, filled-more}
+use Rattle.grid.proofs.Filling.{digits-filled}
 use Rattle.grid.proofs.digits.digits_of.Statement.{statement}
 use Rattle.grid.proofs.digits.digits_of.Tie as tie
 

@@ -5,7 +5,7 @@ use native.Mathlib.Omega.{arith}
 use borrow.Author.Count.{below-none}
 use lib.ListN.{getD}
 use Rattle.grid.specs.Tables.{IsFirst, IsLast}
-use Rattle.grid.proofs.Filling.{Each, each-more}
+use Rattle.network.proofs.Filling.{Each, each-more}
 use Rattle.grid.proofs.Ranging.{range-meets}
 use Rattle.grid.proofs.ranges.ranges_of.Statement.{statement}
 use Rattle.grid.proofs.ranges.ranges_of.Tie as tie

@@ -4,7 +4,7 @@ use mathlib.Core.Path.{_≡_}
 use native.Mathlib.Omega.{arith}
 use lib.ListN.{getD}
 use Rattle.grid.specs.Tables.{repeated}
-use Rattle.grid.proofs.Filling.{Filled, filled-more}
+use Rattle.network.proofs.Filling.{Filled, filled-more}
 use Rattle.grid.proofs.Lists.{repeated-first, repeated-more}
 use Rattle.grid.proofs.starts.repeat.Statement.{statement}
 use Rattle.grid.proofs.starts.repeat.Tie as tie

@@ -4,7 +4,8 @@ use mathlib.Core.Path.{refl, ap, _∙_}
 use native.Mathlib.Omega.{arith}
 use borrow.Author.Count.{below-none}
 use Rattle.certificate.specs.Layout.{countAt, intervalsOf}
-use Rattle.grid.proofs.Filling.{Filled, filled-more, grid-place}
+use Rattle.network.proofs.Filling.{Filled, filled-more}
+use Rattle.grid.proofs.Filling.{grid-place}
 use Rattle.grid.proofs.tables.counts_of.Statement.{statement}
 use Rattle.grid.proofs.tables.counts_of.Tie as tie
 

@@ -4,7 +4,8 @@ use mathlib.Core.Path.{refl}
 use native.Mathlib.Omega.{arith}
 use borrow.Author.Count.{below-none}
 use Rattle.certificate.specs.Layout.{linksOf}
-use Rattle.grid.proofs.Filling.{Filled, filled-more, grid-place, edgeEntry, edges-filled}
+use Rattle.network.proofs.Filling.{Filled, filled-more}
+use Rattle.grid.proofs.Filling.{grid-place, edgeEntry, edges-filled}
 use Rattle.grid.proofs.tables.edges_of.Statement.{statement}
 use Rattle.grid.proofs.tables.edges_of.Tie as tie
 

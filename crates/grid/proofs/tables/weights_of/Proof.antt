@@ -5,7 +5,7 @@ use native.Mathlib.Omega.{arith}
 use native.Mathlib.Numerals.{add-one}
 use borrow.Author.Count.{below-none}
 use Rattle.grid.specs.Tables.{weightOf}
-use Rattle.grid.proofs.Filling.{Filled, filled-more}
+use Rattle.network.proofs.Filling.{Filled, filled-more}
 use Rattle.grid.proofs.Blocks.{spanOf, span-all, weight-left}
 use Rattle.grid.proofs.tables.weights_of.Statement.{statement}
 use Rattle.grid.proofs.tables.weights_of.Tie as tie

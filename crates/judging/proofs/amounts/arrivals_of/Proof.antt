@@ -4,7 +4,7 @@ use mathlib.Core.Path.{refl}
 use native.Mathlib.Omega.{arith}
 use borrow.Author.Count.{below-none}
 use borrow.Author.Needs.{needs}
-use Rattle.grid.proofs.Filling.{Filled, filled-more}
+use Rattle.network.proofs.Filling.{Filled, filled-more}
 use Rattle.judging.specs.Tables.{arrivalEntry}
 use Rattle.judging.proofs.Arriving.{arrivals-filled}
 use Rattle.judging.proofs.amounts.arrivals_of.Statement.{statement}

@@ -4,7 +4,7 @@ use mathlib.Core.Path.{refl, ap}
 use native.Mathlib.Omega.{arith}
 use borrow.Author.Count.{below-none}
 use borrow.Author.Needs.{needs}
-use Rattle.grid.proofs.Filling.{Filled, filled-more}
+use Rattle.network.proofs.Filling.{Filled, filled-more}
 use Rattle.certificate.specs.Layout.{capOf}
 use Rattle.judging.proofs.amounts.caps_of.Statement.{statement}
 use Rattle.judging.proofs.amounts.caps_of.Tie as tie

@@ -4,7 +4,7 @@ use mathlib.Core.Path.{refl}
 use native.Mathlib.Omega.{arith}
 use borrow.Author.Count.{below-none}
 use borrow.Author.Needs.{needs}
-use Rattle.grid.proofs.Filling.{Filled, filled-more}
+use Rattle.network.proofs.Filling.{Filled, filled-more}
 use lib.ListN.{getD}
 use Rattle.judging.proofs.boxes.ends_under.Statement.{statement}
 use Rattle.judging.proofs.boxes.ends_under.Tie as tie

@@ -7,7 +7,7 @@ use borrow.Author.Needs.{needs}
 use Rattle.certificate.specs.Layout.{linksOf}
 use Rattle.grid.specs.Intervals.{lowerEdge, upperEdge}
 use Rattle.grid.specs.Cells.{lowerOf, upperOf}
-use Rattle.grid.proofs.Filling.{Filled, filled-more}
+use Rattle.network.proofs.Filling.{Filled, filled-more}
 use Rattle.judging.proofs.entry.cell_edges.Statement.{statement}
 use Rattle.judging.proofs.entry.cell_edges.Tie as tie
 

@@ -4,7 +4,7 @@ use native.Mathlib.Nat.{mod-lt}
 use native.Mathlib.Omega.{arith}
 use borrow.Author.Count.{below-none}
 use borrow.Author.Needs.{needs}
-use Rattle.grid.proofs.Filling.{Filled, filled-more}
+use Rattle.network.proofs.Filling.{Filled, filled-more}
 use Rattle.judging.proofs.Ranking.{rankEntry, slot-is, ranks-filled, table-fits}
 use Rattle.judging.proofs.ranks.fill_ranks.Statement.{statement}
 use Rattle.judging.proofs.ranks.fill_ranks.Tie as tie

@@ -1,20 +1,22 @@
 -- `network::ends::scale` meets its contract. Assumes nothing.
 use Prim.Native.Nat.{_*_, _-_, _≤_}
+use mathlib.Core.Path.{refl}
 use native.Mathlib.Omega.{arith}
+use borrow.Author.Count.{below-none}
 use borrow.Author.Needs.{needs}
 use Rattle.network.specs.Roads.{at}
-use Rattle.network.proofs.Filling.{Filled, filled-none, filled-more}
+use Rattle.network.proofs.Filling.{Filled, filled-more}
 use Rattle.network.proofs.ends.scale.Statement.{statement}
 use Rattle.network.proofs.ends.scale.Tie as tie
 
 abbrev Inv-loop : tie.InvT-loop
-Inv-loop links x ends₀ l₀ ends l = (l ≤ links) × Filled 8 (λ k. 10000 * at x k) 0 l ends
+Inv-loop links x ends₀ l₀ ends l = (l ≤ links) × Filled 8 l (λ k. 10000 * at x k) ends
 
 abbrev μ-loop : tie.MeasureT-loop
 μ-loop links x ends₀ l₀ ends l = links - l
 
 loop-holds : tie.Need-loop-holds Inv-loop μ-loop
-loop-holds c = (search needs, filled-none _ _ _ _ (c .pre .2))
+loop-holds c = (search needs, (c .pre .2, below-none _))
 
 mul-ends : tie.Need-mul-ends Inv-loop μ-loop
 mul-ends c = search needs
@@ -38,10 +40,10 @@ loop-less : tie.Need-loop-less Inv-loop μ-loop
 loop-less c = search needs
 
 loop-again : tie.Need-loop-again Inv-loop μ-loop
-loop-again c = (search needs, filled-more _ _ _ _ _ _ (c .before .before .loop .inv .1) (omega arith) (cc))
+loop-again c = (search needs, filled-more 8 _ _ (c .before .before .loop .ends) _ (c .before .before .loop .inv .1) (omega arith) refl)
 
 returns : tie.Need-returns Inv-loop μ-loop
-returns c = (c .before .loop .inv .1 .long, λ l h. c .before .loop .inv .1 .at l (omega arith) (omega arith))
+returns c = (c .before .loop .inv .1 .0, λ l h. c .before .loop .inv .1 .1 l (omega arith))
 
 pub scale-spec : {M : Type 1} → statement M
 scale-spec =

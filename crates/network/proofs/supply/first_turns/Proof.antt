@@ -2,22 +2,23 @@
 use Prim.Native.Nat.{_-_, _≤_}
 use mathlib.Core.Path.{refl}
 use native.Mathlib.Omega.{arith}
+use borrow.Author.Count.{below-none}
 use borrow.Author.Needs.{needs}
 use lib.Dec.{leb}
 use Rattle.certificate.specs.Loops.{find}
 use Rattle.certificate.specs.Layout.{turnsOf, fromOf}
-use Rattle.network.proofs.Filling.{Filled, filled-none, filled-more}
+use Rattle.network.proofs.Filling.{Filled, filled-more}
 use Rattle.network.proofs.supply.first_turns.Statement.{statement}
 use Rattle.network.proofs.supply.first_turns.Tie as tie
 
 abbrev Inv-loop : tie.InvT-loop
-Inv-loop s start turns first₀ j₀ first j = (j ≤ 9) × Filled 9 (λ k. find (turnsOf s) (λ t. leb k (fromOf s t))) 0 j first
+Inv-loop s start turns first₀ j₀ first j = (j ≤ 9) × Filled 9 j (λ k. find (turnsOf s) (λ t. leb k (fromOf s t))) first
 
 abbrev μ-loop : tie.MeasureT-loop
 μ-loop s start turns first₀ j₀ first j = 9 - j
 
 loop-holds : tie.Need-loop-holds Inv-loop μ-loop
-loop-holds c = (search needs, filled-none _ _ _ _ refl)
+loop-holds c = (search needs, (refl, below-none _))
 
 first-turn-requires : tie.Need-first-turn-requires Inv-loop μ-loop
 first-turn-requires c κs = search needs
@@ -35,10 +36,10 @@ loop-less : tie.Need-loop-less Inv-loop μ-loop
 loop-less c = search needs
 
 loop-again : tie.Need-loop-again Inv-loop μ-loop
-loop-again c = (search needs, filled-more _ _ _ _ _ _ (c .before .before .loop .inv .1) (omega arith) (c .first-turn .ensures))
+loop-again c = (search needs, filled-more 9 _ _ (c .before .before .loop .first) _ (c .before .before .loop .inv .1) (omega arith) (c .first-turn .ensures))
 
 returns : tie.Need-returns Inv-loop μ-loop
-returns c = record { begins = λ j h. c .before .loop .inv .1 .at j (omega arith) (omega arith) }
+returns c = record { begins = λ j h. c .before .loop .inv .1 .1 j (omega arith) }
 
 pub first-turns-spec : {M : Type 1} → statement M
 first-turns-spec =

@@ -6,21 +6,21 @@ use borrow.Author.Needs.{needs}
 use Rattle.certificate.specs.Layout.{turnsOf}
 use Rattle.network.specs.Roads.{at, supplyAt, TwoLeast}
 use Rattle.network.proofs.Bounds.{turns-most, to-most, to-link, turn-whole, link-whole}
-use Rattle.network.proofs.Filling.{Filled, filled-none, filled-more}
+use Rattle.network.proofs.Filling.{Each, each-more}
 use Rattle.network.proofs.TwoLeast.{two-none, two-more}
 use Rattle.network.proofs.supply.supplies.Statement.{statement}
 use Rattle.network.proofs.supply.supplies.Tie as tie
 
 abbrev Inv-loop : tie.InvT-loop
 Inv-loop s start from end lower upper by-lower₀ by-upper₀ lowest₀ highest₀ t₀ by-lower by-upper lowest highest t =
-    (from ≤ t) × (t ≤ end) × Filled 32 (supplyAt s (at lower)) from t by-lower × Filled 32 (supplyAt s (at upper)) from t by-upper
+    (from ≤ t) × (t ≤ end) × Each 32 t (λ k v. from ≤ k → v ≡ supplyAt s (at lower) k) by-lower × Each 32 t (λ k v. from ≤ k → v ≡ supplyAt s (at upper) k) by-upper
     × TwoLeast (supplyAt s (at lower)) from t (lowest .least) (lowest .next) × TwoLeast (supplyAt s (at upper)) from t (highest .least) (highest .next)
 
 abbrev μ-loop : tie.MeasureT-loop
 μ-loop s start from end lower upper by-lower₀ by-upper₀ lowest₀ highest₀ t₀ by-lower by-upper lowest highest t = end - t
 
 loop-holds : tie.Need-loop-holds Inv-loop μ-loop
-loop-holds c = (search needs, search needs, filled-none _ _ _ _ (c .before .pre .5), filled-none _ _ _ _ (c .before .pre .6), two-none _ _, two-none _ _)
+loop-holds c = (search needs, search needs, (c .before .pre .5, λ k lt le. absurd (omega arith)), (c .before .pre .6, λ k lt le. absurd (omega arith)), two-none _ _, two-none _ _)
 
 rooms-of-requires : tie.Need-rooms-of-requires Inv-loop μ-loop
 rooms-of-requires c κs =
@@ -56,14 +56,16 @@ loop-less c = omega arith
 
 loop-again : tie.Need-loop-again Inv-loop μ-loop
 loop-again c =
-    let inv = c .before .before .before .before .loop .inv in
+    let w = c .before .before .before .before .loop in
+    let a = c .before .before .before .before .before .before .args in
+    let inv = w .inv in
     let rooms = c .before .before .rooms-of .ensures in
-    let t = c .before .before .before .before .loop .t in
+    let t = w .t in
     let here : t < 32 = omega (arith, turns-most (c .before .before .before .before .before .before .pre .0)) in (
       omega arith,
       omega arith,
-      filled-more _ _ _ _ _ _ (inv .2) here (rooms .0),
-      filled-more _ _ _ _ _ _ (inv .3) here (rooms .1),
+      each-more 32 _ (λ k v. a .from ≤ k → v ≡ supplyAt (a .s .now) (at (a .lower .now)) k) (w .«by-lower») _ (inv .2) here (λ _. rooms .0),
+      each-more 32 _ (λ k v. a .from ≤ k → v ≡ supplyAt (a .s .now) (at (a .upper .now)) k) (w .«by-upper») _ (inv .3) here (λ _. rooms .1),
       two-more _ _ _ _ _ _ _ _ (inv .4) (inv .0) (rooms .0) (c .before .two-with .ensures .0) (c .before .two-with .ensures .1),
       two-more _ _ _ _ _ _ _ _ (inv .5) (inv .0) (rooms .1) (c .two-with2 .ensures .0) (c .two-with2 .ensures .1),
     )
@@ -72,7 +74,7 @@ returns : tie.Need-returns Inv-loop μ-loop
 returns c =
     let inv = c .before .loop .inv in
     let done : c .before .loop .t ≡ c .before .before .before .args .end = omega arith in
-    (record { long = inv .2 .long; room = λ t le lt. inv .2 .at t le (omega arith) }, record { long = inv .3 .long; room = λ t le lt. inv .3 .at t le (omega arith) }, rw (← done) (inv .4), rw (← done) (inv .5))
+    (record { long = inv .2 .0; room = λ t le lt. inv .2 .1 t (omega arith) le }, record { long = inv .3 .0; room = λ t le lt. inv .3 .1 t (omega arith) le }, rw (← done) (inv .4), rw (← done) (inv .5))
 
 pub supplies-spec : {M : Type 1} → statement M
 supplies-spec =
