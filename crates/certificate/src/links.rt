@@ -1,8 +1,9 @@
 // LK: one record a link, its fields and its tests.
 ghost use mathlib.Core.Path.{_≡_};
-ghost use Prim.Native.Nat.{_<_};
+ghost use Prim.Native.Nat.{_+_, _<_, _≤_};
+ghost use lib.ListN.{length};
 ghost use Rattle.certificate.specs.Checks.{firstBad};
-ghost use Rattle.certificate.specs.Layout.{tailOf, headOf, capOf, flowOf, safeOf, goalOf};
+ghost use Rattle.certificate.specs.Layout.{linkAt, linkSize, tailOf, headOf, capOf, flowOf, safeOf, goalOf};
 ghost use Rattle.certificate.specs.Records.{linkOk, linkFault};
 use crate::Report;
 use crate::limits;
@@ -48,6 +49,21 @@ pub fn goal_of(s: &[u8], l: usize) -> usize
     ensures { λ r. ⌜ (r ≡ goalOf (now (s .entry)) l) × (r < 65536) ⌝ }
 {
     octets::u16_at(s, limits::HEADER_SIZE + limits::LINK_SIZE * l + 10)
+}
+
+// Cap and flow of a link that is there whole: no test.
+pub fn cap_within(s: &[u8], l: usize) -> usize
+    requires { ⌜ (l < 256) × (linkAt l + linkSize ≤ length (now s)) ⌝ }
+    ensures { λ r. ⌜ (r ≡ capOf (now (s .entry)) l) × (r < 65536) ⌝ }
+{
+    octets::u16_within(s, limits::HEADER_SIZE + limits::LINK_SIZE * l + 4)
+}
+
+pub fn flow_within(s: &[u8], l: usize) -> usize
+    requires { ⌜ (l < 256) × (linkAt l + linkSize ≤ length (now s)) ⌝ }
+    ensures { λ r. ⌜ (r ≡ flowOf (now (s .entry)) l) × (r < 65536) ⌝ }
+{
+    octets::u16_within(s, limits::HEADER_SIZE + limits::LINK_SIZE * l + 6)
 }
 
 fn link_ok(s: &[u8], l: usize) -> bool

@@ -93,7 +93,7 @@ module _ (s : List ℕ) (l : ℕ) where
             from = λ k b. ⊎-elim
                 (λ h. P .from k h ∙ sym (low-inner k end (omega arith)))
                 (λ (h : inner ≤ k). let same : k ≡ inner = omega arith in
-                    le-leb r k (omega (arith, P .most)) ∙ sym (low-last k end (omega arith) ∙ le-leb end _ (rw same (omega arith))))
+                le-leb r k (omega (arith, P .most)) ∙ sym (low-last k end (omega arith) ∙ le-leb end _ (rw same (omega arith))))
                 (below-or k inner);
           }
 

@@ -9,6 +9,7 @@ ghost use Rattle.certificate.specs.Layout.{linksOf, turnsOf, shareOf};
 ghost use Rattle.network.specs.Roads.{Roads, at, FirstTurns, WithinCaps, limitBy, TwoLeast, sentBy, PassedOn, Side, EndsBefore};
 use crate::conditions;
 use crate::supply;
+use certificate::links;
 use certificate::turns;
 
 pub struct Ends {
@@ -97,7 +98,7 @@ fn send(
     let least = supply::supplies(s, start, from, end, lower, upper, by_lower, by_upper);
     let lowest = least.lower;
     let highest = least.upper;
-    let flow = 100 * supply::flow_within(s, l);
+    let flow = 100 * links::flow_within(s, l);
     pass_on(
         s,
         start,

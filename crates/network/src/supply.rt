@@ -5,10 +5,9 @@ ghost use Prim.Native.Nat.{_+_, _*_, _<_, _≤_, min, max};
 ghost use lib.Dec.{leb, eqb};
 ghost use lib.ListN.{length};
 ghost use Rattle.certificate.specs.Loops.{pick, find};
-ghost use Rattle.certificate.specs.Layout.{linkSize, linkAt, linksOf, turnsOf, turnsStart, turnAt, turnSize, capOf, flowOf, fromOf, toOf};
+ghost use Rattle.certificate.specs.Layout.{linkSize, linkAt, linksOf, turnsOf, turnsStart, turnAt, turnSize, capOf, fromOf, toOf};
 ghost use Rattle.network.specs.Roads.{Roads, at, FirstTurns, WithinCaps, supplyAt, Supplies, TwoLeast};
-use certificate::limits;
-use certificate::octets;
+use certificate::links;
 use certificate::turns;
 
 // What a link has room for, at lower and at upper queues.
@@ -66,29 +65,13 @@ pub fn first_turns(s: &[u8], start: usize, turns: usize) -> [usize; 9]
     first
 }
 
-// The cap of a link that is there whole: no test.
-fn cap_within(s: &[u8], l: usize) -> usize
-    requires { ⌜ (l < 256) × (linkAt l + linkSize ≤ length (now s)) ⌝ }
-    ensures { λ r. ⌜ (r ≡ capOf (now (s .entry)) l) × (r < 65536) ⌝ }
-{
-    octets::u16_within(s, limits::HEADER_SIZE + limits::LINK_SIZE * l + 4)
-}
-
-// The same of its flow.
-pub fn flow_within(s: &[u8], l: usize) -> usize
-    requires { ⌜ (l < 256) × (linkAt l + linkSize ≤ length (now s)) ⌝ }
-    ensures { λ r. ⌜ (r ≡ flowOf (now (s .entry)) l) × (r < 65536) ⌝ }
-{
-    octets::u16_within(s, limits::HEADER_SIZE + limits::LINK_SIZE * l + 6)
-}
-
 // What the to link of turn t has room for at lower and at upper queues: pull × (cap − queue), in hundredths.
 fn rooms_of(s: &[u8], start: usize, t: usize, lower: &[usize; 8], upper: &[usize; 8]) -> Rooms
     requires { ⌜ (t < 256) × (start ≤ 100000) × (start ≡ turnsStart (now s)) × (toOf (now s) t < 8) × (at (now lower) (toOf (now s) t) ≤ capOf (now s) (toOf (now s) t)) × (at (now upper) (toOf (now s) t) ≤ capOf (now s) (toOf (now s) t)) × (turnAt (now s) t + turnSize ≤ length (now s)) × (linkAt (toOf (now s) t) + linkSize ≤ length (now s)) ⌝ }
     ensures { λ r. ⌜ (r .lower ≡ supplyAt (now (s .entry)) (at (now (lower .entry))) t) × (r .upper ≡ supplyAt (now (s .entry)) (at (now (upper .entry))) t) ⌝ }
 {
     let to = turns::to_within(s, start, t);
-    let cap = cap_within(s, to);
+    let cap = links::cap_within(s, to);
     let pull = turns::pull_within(s, start, t);
     let by_lower = pull * (cap - lower[to]);
     let by_upper = pull * (cap - upper[to]);
