@@ -1,7 +1,8 @@
 -- The entries of the table of edges and of that of intervals. Assumes nothing.
 use Prim.Native.Nat.{ℕ, zero, suc, _+_, _*_, _-_, _/_, _%_, _≤_, _<_}
 use mathlib.Core.List.{List}
-use mathlib.Core.Path.{_≡_, refl, sym, _∙_}
+use mathlib.Core.Path.{_≡_, refl, sym, ap, _∙_}
+use native.Mathlib.Nat.{mul-comm, div-eq-of-lt, mod-eq-of-lt, mul-add-div-right, mul-add-mod-self-right, div-lt-iff-lt-mul, mod-lt}
 use native.Mathlib.Numerals.{add-one}
 use native.Mathlib.Omega.{arith}
 use borrow.Author.Tests.{lt-ltb, le-ltb}
@@ -13,7 +14,7 @@ use Rattle.certificate.proofs.Size.{readable-fits}
 use Rattle.grid.specs.Intervals.{lowerEdge, upperEdge}
 use Rattle.grid.specs.Tables.{Holds, edgeOf, EdgesOf, weightOf, digitEntry, DigitsOf}
 use Rattle.grid.proofs.Edges.{upper-inner, upper-last}
-use Rattle.grid.proofs.Blocks.{interval-quotient}
+use Rattle.grid.proofs.Blocks.{interval-quotient, weight-least}
 
 -- a grid record starts within a certificate
 pub grid-place : (s : List ℕ) → Readable s → (l : ℕ) → l < linksOf s → gridAt s l ≤ 100000
@@ -67,14 +68,64 @@ edges-filled s R a n e h =
           rw same (h (16 * l + (i + 1)) (omega arith) ∙ entry-is s l (i + 1) (omega arith) ∙ edge-upper s l i);
     }
 
--- entry k of the table of intervals, as the code finds it: by the weight w and the count n of its link
-pub digit-here : (s : List ℕ) (k links w n : ℕ) → k % 8 < links → links ≡ linksOf s → w ≡ weightOf s (k % 8) → n ≡ intervalsOf s (k % 8) → k / 8 / w % n ≡ digitEntry s k
-unfolding digitEntry
-digit-here s k links w n lt e f g = rw (f, g, lt-ltb (k % 8) (linksOf s) (omega arith)) (sym (interval-quotient s (k / 8) (k % 8)))
+-- a number of cells in intervals of w and rounds of n: below one interval, one interval later, one round later
+module _ (w n c : ℕ) (some : 0 < w) (any : 0 < n) where
+  place-first : c < w → c / w % n ≡ 0
+  place-first lt = rw (div-eq-of-lt lt) (mod-eq-of-lt any)
+
+  place-next : w ≤ c → c < n * w → c / w % n ≡ (c - w) / w % n + 1
+  place-next le lt =
+      let q = (c - w) / w in
+      let split : c ≡ 1 * w + (c - w) = omega arith in
+      let here : c / w ≡ 1 + q = ap (λ (x : ℕ). x / w) split ∙ mul-add-div-right some 1 (c - w) in
+      let below : c / w < n = div-lt-iff-lt-mul some .1 lt in
+      mod-eq-of-lt below ∙ here ∙ omega (arith, mod-eq-of-lt (let less : q < n = omega arith in less))
+
+  place-round : n * w ≤ c → c / w % n ≡ (c - n * w) / w % n
+  place-round le =
+      let split : c ≡ n * w + (c - n * w) = omega arith in
+      let here : c / w ≡ n + (c - n * w) / w = ap (λ (x : ℕ). x / w) split ∙ mul-add-div-right some n (c - n * w) in
+      let one : n + (c - n * w) / w ≡ 1 * n + (c - n * w) / w = omega arith in
+      ap (λ (x : ℕ). x % n) (here ∙ one) ∙ mul-add-mod-self-right 1 n ((c - n * w) / w)
 
 pub digit-absent : (s : List ℕ) (k links : ℕ) → links ≤ k % 8 → links ≡ linksOf s → 0 ≡ digitEntry s k
 unfolding digitEntry
 digit-absent s k links le e = rw (le-ltb (k % 8) (linksOf s) (omega arith))
+
+-- entry k of the table of intervals, of a link that exists: w is the weight of the link and n its count
+module _ (s : List ℕ) (R : Readable s) (k w n : ℕ) (lt : k % 8 < linksOf s) (w-is : w ≡ weightOf s (k % 8)) (n-is : n ≡ intervalsOf s (k % 8)) where
+  some : 0 < w
+  some = omega (arith, weight-least s R (k % 8))
+
+  any : 0 < n
+  any = omega (arith, R .grid (k % 8) lt .count-least)
+
+  here : digitEntry s k ≡ k / 8 / w % n
+  unfolding digitEntry
+  here = rw (lt-ltb (k % 8) (linksOf s) lt, w-is, n-is) (interval-quotient s (k / 8) (k % 8))
+
+  -- the entry of the same link m cells before
+  back : (m : ℕ) → m ≤ k / 8 → digitEntry s (k - 8 * m) ≡ (k / 8 - m) / w % n
+  unfolding digitEntry
+  back m le =
+      let same : (k - 8 * m) % 8 ≡ k % 8 = omega arith in
+      let cell : (k - 8 * m) / 8 ≡ k / 8 - m = omega arith in
+      rw (same, cell, lt-ltb (k % 8) (linksOf s) lt, w-is, n-is) (interval-quotient s (k / 8 - m) (k % 8))
+
+  pub digit-small : digitEntry s k < n
+  digit-small = rw here (mod-lt (k / 8 / w) any)
+
+  pub digit-first : k / 8 < w → 0 ≡ digitEntry s k
+  digit-first h = sym (here ∙ place-first w n (k / 8) some any h)
+
+  pub digit-next : (v : ℕ) → w ≤ k / 8 → k / 8 < w * n → v ≡ digitEntry s (k - 8 * w) → v + 1 ≡ digitEntry s k
+  digit-next v le h v-is =
+      let low = v-is ∙ back w le in
+      rw low (sym (here ∙ place-next w n (k / 8) some any le (rw (mul-comm n w) h)))
+
+  pub digit-round : (v : ℕ) → w * n ≤ k / 8 → v ≡ digitEntry s (k - 8 * (w * n)) → v ≡ digitEntry s k
+  digit-round v h v-is =
+      v-is ∙ back (w * n) h ∙ sym (here ∙ (rw (mul-comm n w) at (place-round w n (k / 8) some any (rw (mul-comm n w) h))))
 
 pub digits-filled : (s : List ℕ) → Readable s → (a : List ℕ) (n : ℕ) → n ≡ 8 * cellsOf s → Holds n (digitEntry s) a → DigitsOf s a
 unfolding digitEntry

@@ -1,19 +1,35 @@
-// The interval of each link in each cell, eight a cell. `counts` and `weights` are those of the links.
+// The interval of each link in each cell, eight a cell. `counts` and `weights` are those of the links. A link's interval is one higher
+// one weight of cells later, and the same again one round of its intervals later, so each is found by one before it.
 ghost use mathlib.Core.Path.{_≡_};
+ghost use Prim.Native.Nat.{_<_};
 ghost use Rattle.certificate.specs.Layout.{cellsOf};
-ghost use Rattle.grid.specs.Tables.{GridOf, digitEntry, DigitsOf};
+ghost use Rattle.grid.specs.Tables.{Holds, GridOf, digitEntry, DigitsOf};
 
-// Entry k: the interval of link k % 8 in cell k / 8, and 0 for a link that does not exist.
-fn digit_at(s: &[u8], counts: &[usize; 8], weights: &[usize; 8], links: usize, k: usize) -> u8
-    requires { ⌜ GridOf (now s) (now counts) (now weights) links ⌝ }
+// Entry k: the interval of link k % 8 in cell k / 8, and 0 for a link that does not exist. The entries before it are filled.
+fn digit_at(
+    s: &[u8],
+    counts: &[usize; 8],
+    weights: &[usize; 8],
+    links: usize,
+    digits: &[u8; 32768],
+    k: usize,
+) -> u8
+    requires { ⌜ GridOf (now s) (now counts) (now weights) links × (k < 32768) × Holds k (digitEntry (now s)) (now digits) ⌝ }
     ensures { λ r. ⌜ r ≡ digitEntry (now (s .entry)) k ⌝ }
 {
     let l = k % 8;
-    if l < links {
-        (k / 8 / weights[l] % counts[l]) as u8
-    } else {
-        0
+    if links <= l {
+        return 0;
     }
+    let weight = weights[l];
+    if k / 8 < weight {
+        return 0;
+    }
+    let round = weight * counts[l];
+    if k / 8 < round {
+        return digits[k - 8 * weight] + 1;
+    }
+    digits[k - 8 * round]
 }
 
 pub fn digits_of(
@@ -28,7 +44,7 @@ pub fn digits_of(
 {
     let mut digits = [0u8; 32768];
     for k in 0..8 * cells {
-        digits[k] = digit_at(s, counts, weights, links, k);
+        digits[k] = digit_at(s, counts, weights, links, &digits, k);
     }
     digits
 }

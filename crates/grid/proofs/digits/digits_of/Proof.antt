@@ -4,8 +4,8 @@ use mathlib.Core.Path.{refl}
 use native.Mathlib.Omega.{arith}
 use borrow.Author.Count.{below-none}
 use Rattle.certificate.proofs.Size.{cells-in-range}
-use Rattle.grid.specs.Tables.{digitEntry}
 use Rattle.network.proofs.Filling.{Filled, filled-more}
+use Rattle.grid.specs.Tables.{digitEntry}
 use Rattle.grid.proofs.Filling.{digits-filled}
 use Rattle.grid.proofs.digits.digits_of.Statement.{statement}
 use Rattle.grid.proofs.digits.digits_of.Tie as tie
@@ -23,7 +23,8 @@ loop-holds : tie.Need-loop-holds Inv-loop μ-loop
 loop-holds c = let a = c .before in (omega (arith, cells-in-range (a .args .s .now) (a .pre .0 .readable)), (refl, below-none _))
 
 digit-at-requires : tie.Need-digit-at-requires Inv-loop μ-loop
-digit-at-requires c κs = c .before .before .before .pre .0
+digit-at-requires c κs = let w = c .before .before .loop .inv in
+    (c .before .before .before .before .pre .0, omega (arith, w .0, c .before .loop-test .taken), w .1 .1)
 
 array-write-digits : tie.Need-array-write-digits Inv-loop μ-loop
 array-write-digits c = omega arith
@@ -35,7 +36,7 @@ loop-less : tie.Need-loop-less Inv-loop μ-loop
 loop-less c = omega arith
 
 loop-again : tie.Need-loop-again Inv-loop μ-loop
-loop-again c = let l = c .before .before in (l .loop .inv .0, filled-more 32768 _ _ (l .loop .digits) _ (l .loop .inv .1) (omega arith) (c .digit-at .ensures))
+loop-again c = let l = c .before .before .before in (l .loop .inv .0, filled-more 32768 _ _ (l .loop .digits) _ (l .loop .inv .1) (omega arith) (c .digit-at .ensures))
 
 returns : tie.Need-returns Inv-loop μ-loop
 returns c = let a = c .before .before .before in digits-filled (a .args .s .now) (a .pre .0 .readable) (c .before .loop .digits) (8 * a .args .cells) (omega arith) (λ k lt. c .before .loop .inv .1 .1 k (omega arith))
