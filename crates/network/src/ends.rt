@@ -38,29 +38,35 @@ fn sent_by(near: &[usize; 32], far: &[usize; 32], two: supply::Two, most: usize,
     )
 }
 
-// Link l sends, at most `flow`: its own end loses what it sends, and each of its turns from..end adds its share of what it lets
-// pass to its to link. `least` is the least of `near`, `two` the two least of `far`.
+// A link that sends: its number, where its turns begin and end, and the most that it may send, in hundredths.
+struct Sender {
+    link: usize,
+    from: usize,
+    end: usize,
+    flow: usize,
+}
+
+// A link sends: its own end loses what it sends, and each of its turns adds its share of what it lets pass to its to link.
+// `own` has the two least supplies of `near`, `two` those of `far`.
 fn pass_on(
     s: &[u8],
     start: usize,
-    from: usize,
-    end: usize,
-    l: usize,
-    flow: usize,
+    sender: Sender,
     x: &[usize; 8],
     near: &[usize; 32],
-    least: usize,
+    own: supply::Two,
     far: &[usize; 32],
     two: supply::Two,
     ends: &mut [usize; 8],
 )
-    requires { ⌜ Roads (now s) start (turnsOf (now s)) (linksOf (now s)) × (from ≤ end) × (end ≤ turnsOf (now s)) × (l < linksOf (now s)) × (at (now x) l ≤ 10000) × (10000 * at (now x) l ≤ at (now ends) l)
-        × TwoLeast (at (now far)) from end (two .least) (two .next) × (linksOf (now s) ≤ length (now ends)) × ((k : ℕ) → k < linksOf (now s) → at (now ends) k ≤ 100000000 + from * 255000000) ⌝ }
-    ensures { λ _. ⌜ PassedOn (now (s .entry)) (λ t. shareOf (now (s .entry)) t * sentBy (at (now (near .entry))) (at (now (far .entry))) from end (min (100 * at (now (x .entry)) l) flow) t)
-        from end l (100 * min least (min (100 * at (now (x .entry)) l) flow)) (now (ends .entry)) (now (ends .exit)) ⌝ }
+    requires { ⌜ Roads (now s) start (turnsOf (now s)) (linksOf (now s)) × (sender .from ≤ sender .end) × (sender .end ≤ turnsOf (now s)) × (sender .link < linksOf (now s)) × (at (now x) (sender .link) ≤ 10000) × (10000 * at (now x) (sender .link) ≤ at (now ends) (sender .link)) × TwoLeast (at (now far)) (sender .from) (sender .end) (two .least) (two .next) × (linksOf (now s) ≤ length (now ends)) × ((k : ℕ) → k < linksOf (now s) → at (now ends) k ≤ 100000000 + sender .from * 255000000) ⌝ }
+    ensures { λ _. ⌜ PassedOn (now (s .entry)) (λ t. shareOf (now (s .entry)) t * sentBy (at (now (near .entry))) (at (now (far .entry))) (sender .from) (sender .end) (min (100 * at (now (x .entry)) (sender .link)) (sender .flow)) t) (sender .from) (sender .end) (sender .link) (100 * min (own .least) (min (100 * at (now (x .entry)) (sender .link)) (sender .flow))) (now (ends .entry)) (now (ends .exit)) ⌝ }
 {
-    let most = supply::smaller(100 * x[l], flow);
-    ends[l] = ends[l] - 100 * supply::smaller(least, most);
+    let l = sender.link;
+    let from = sender.from;
+    let end = sender.end;
+    let most = supply::smaller(100 * x[l], sender.flow);
+    ends[l] = ends[l] - 100 * supply::smaller(own.least, most);
     for t in from..end {
         let to = turns::to_within(s, start, t);
         let more = turns::share_within(s, start, t) * sent_by(near, far, two, most, t);
@@ -69,7 +75,7 @@ fn pass_on(
 }
 
 // The ends of the low and the high side once link l has sent too: nothing where it is red.
-// `by_lower` and `by_upper` are lent for the supplies of its turns.
+// `lows` and `highs` are lent for the supplies of its turns at the lower and the upper queues.
 fn send(
     s: &[u8],
     start: usize,
@@ -78,55 +84,31 @@ fn send(
     lower: &[usize; 8],
     upper: &[usize; 8],
     l: usize,
-    by_lower: &mut [usize; 32],
-    by_upper: &mut [usize; 32],
+    lows: &mut [usize; 32],
+    highs: &mut [usize; 32],
     low: &mut [usize; 8],
     high: &mut [usize; 8],
 )
-    requires { ⌜ Roads (now s) start (turnsOf (now s)) (linksOf (now s)) × FirstTurns (now s) (now first) × WithinCaps (now s) (now lower) × WithinCaps (now s) (now upper) × (l < linksOf (now s))
-        × Side (now s) (limitBy (now s) byte) (at (now lower)) (at (now upper)) (now first) l (now low) × Side (now s) (limitBy (now s) byte) (at (now upper)) (at (now lower)) (now first) l (now high)
-        × (length (now «by_lower») ≡ 32) × (length (now «by_upper») ≡ 32) ⌝ }
-    ensures { λ _. ⌜ Side (now (s .entry)) (limitBy (now (s .entry)) byte) (at (now (lower .entry))) (at (now (upper .entry))) (now (first .entry)) (l + 1) (now (low .exit))
-        × Side (now (s .entry)) (limitBy (now (s .entry)) byte) (at (now (upper .entry))) (at (now (lower .entry))) (now (first .entry)) (l + 1) (now (high .exit))
-        × (length (now («by_lower» .exit)) ≡ 32) × (length (now («by_upper» .exit)) ≡ 32) ⌝ }
+    requires { ⌜ Roads (now s) start (turnsOf (now s)) (linksOf (now s)) × FirstTurns (now s) (now first) × WithinCaps (now s) (now lower) × WithinCaps (now s) (now upper) × (l < linksOf (now s)) × Side (now s) (limitBy (now s) byte) (at (now lower)) (at (now upper)) (now first) l (now low) × Side (now s) (limitBy (now s) byte) (at (now upper)) (at (now lower)) (now first) l (now high) × (length (now lows) ≡ 32) × (length (now highs) ≡ 32) ⌝ }
+    ensures { λ _. ⌜ Side (now (s .entry)) (limitBy (now (s .entry)) byte) (at (now (lower .entry))) (at (now (upper .entry))) (now (first .entry)) (l + 1) (now (low .exit)) × Side (now (s .entry)) (limitBy (now (s .entry)) byte) (at (now (upper .entry))) (at (now (lower .entry))) (now (first .entry)) (l + 1) (now (high .exit)) × (length (now (lows .exit)) ≡ 32) × (length (now (highs .exit)) ≡ 32) ⌝ }
 {
     if !conditions::is_green(byte, l) {
         return;
     }
     let from = first[l];
     let end = first[l + 1];
-    let least = supply::supplies(s, start, from, end, lower, upper, by_lower, by_upper);
+    let least = supply::supplies(s, start, from, end, lower, upper, lows, highs);
     let lowest = least.lower;
     let highest = least.upper;
     let flow = 100 * links::flow_within(s, l);
-    pass_on(
-        s,
-        start,
+    let sender = Sender {
+        link: l,
         from,
         end,
-        l,
         flow,
-        lower,
-        by_lower,
-        lowest.least,
-        by_upper,
-        highest,
-        low,
-    );
-    pass_on(
-        s,
-        start,
-        from,
-        end,
-        l,
-        flow,
-        upper,
-        by_upper,
-        highest.least,
-        by_lower,
-        lowest,
-        high,
-    );
+    };
+    pass_on(s, start, sender, lower, lows, lowest, highs, highest, low);
+    pass_on(s, start, sender, upper, highs, highest, lows, lowest, high);
 }
 
 // The ends of the image of the closed box lower .. upper, before arrivals.
@@ -143,8 +125,8 @@ pub fn ends_of(
     requires { ⌜ Roads (now s) start turns links × FirstTurns (now s) (now first) × WithinCaps (now s) (now lower) × WithinCaps (now s) (now upper) ⌝ }
     ensures { λ r. ⌜ EndsBefore (now (s .entry)) (limitBy (now (s .entry)) byte) (at (now (lower .entry))) (at (now (upper .entry))) (r .low) (r .high) ⌝ }
 {
-    let mut by_lower = [0usize; 32];
-    let mut by_upper = [0usize; 32];
+    let mut lows = [0usize; 32];
+    let mut highs = [0usize; 32];
     let mut low = [0usize; 8];
     let mut high = [0usize; 8];
     scale(links, lower, &mut low);
@@ -158,8 +140,8 @@ pub fn ends_of(
             lower,
             upper,
             l,
-            &mut by_lower,
-            &mut by_upper,
+            &mut lows,
+            &mut highs,
             &mut low,
             &mut high,
         );

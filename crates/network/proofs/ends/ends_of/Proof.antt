@@ -12,12 +12,12 @@ use Rattle.network.proofs.ends.ends_of.Statement.{statement}
 use Rattle.network.proofs.ends.ends_of.Tie as tie
 
 abbrev Inv-loop : tie.InvT-loop
-Inv-loop s start turns links byte first lower upper by-lower₀ by-upper₀ low₀ high₀ l₀ by-lower by-upper low high l =
+Inv-loop s start turns links byte first lower upper lows₀ highs₀ low₀ high₀ l₀ lows highs low high l =
     (l ≤ links) × Side s (limitBy s byte) (at lower) (at upper) first l low × Side s (limitBy s byte) (at upper) (at lower) first l high
-    × (length by-lower ≡ 32) × (length by-upper ≡ 32)
+    × (length lows ≡ 32) × (length highs ≡ 32)
 
 abbrev μ-loop : tie.MeasureT-loop
-μ-loop s start turns links byte first lower upper by-lower₀ by-upper₀ low₀ high₀ l₀ by-lower by-upper low high l = links - l
+μ-loop s start turns links byte first lower upper lows₀ highs₀ low₀ high₀ l₀ lows highs low high l = links - l
 
 scale-requires : tie.Need-scale-requires Inv-loop μ-loop
 scale-requires c κs = let start = c .before .before in (links-most (start .pre .0), λ l h. queue-most (start .pre .0 .readable) (start .pre .2) l (omega arith), refl)

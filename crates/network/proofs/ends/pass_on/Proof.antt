@@ -14,11 +14,11 @@ use Rattle.network.proofs.ends.pass_on.Statement.{statement}
 use Rattle.network.proofs.ends.pass_on.Tie as tie
 
 abbrev Inv-loop : tie.InvT-loop
-Inv-loop s start from end l flow x near least far two ends₀ most t₀ ends t =
-    (from ≤ t) × (t ≤ end) × Passing s (λ u. shareOf s u * sentBy (at near) (at far) from end (min (100 * at x l) flow) u) from ends₀ t ends
+Inv-loop s start x near far two ends₀ l from end most t₀ ends t =
+    (from ≤ t) × (t ≤ end) × Passing s (λ u. shareOf s u * sentBy (at near) (at far) from end most u) from ends₀ t ends
 
 abbrev μ-loop : tie.MeasureT-loop
-μ-loop s start from end l flow x near least far two ends₀ most t₀ ends t = end - t
+μ-loop s start x near far two ends₀ l from end most t₀ ends t = end - t
 
 mul-smaller : tie.Need-mul-smaller Inv-loop μ-loop
 mul-smaller c = search needs
@@ -56,7 +56,7 @@ element-write-ends c = search needs
 loop-holds : tie.Need-loop-holds Inv-loop μ-loop
 loop-holds c =
     let start = c .before .before .before .before .before in
-    (search needs, search needs, passing-none (start .args .s .now) _ (start .args .from) (start .args .l) (100 * c .smaller2 .result) (start .args .ends .now) (start .pre .7) (start .pre .3) (omega arith) (start .pre .8))
+    (search needs, search needs, passing-none (start .args .s .now) _ (start .args .sender .from) (start .args .sender .link) (100 * c .smaller2 .result) (start .args .ends .now) (start .pre .7) (start .pre .3) (omega arith) (start .pre .8))
 
 there : (c : tie.In-loop Inv-loop μ-loop) → c .before .loop .t < turnsOf (c .before .before .before .before .before .before .before .args .s .now)
 there c = omega arith
@@ -79,8 +79,8 @@ sent-by-requires : tie.Need-sent-by-requires Inv-loop μ-loop
 sent-by-requires c κs = omega arith
 
 -- no link sends more than a million
-small : (c : tie.After-sent-by Inv-loop μ-loop) → min (100 * at (c .before .before .before .before .before .before .before .before .before .before .args .x .now) (c .before .before .before .before .before .before .before .before .before .before .args .l)) (c .before .before .before .before .before .before .before .before .before .before .args .flow) ≤ 1000000
-small c = omega arith
+small : (c : tie.After-sent-by Inv-loop μ-loop) → c .before .before .before .before .before .before .before .smaller .result ≤ 1000000
+small c = omega (arith, c .before .before .before .before .before .before .before .smaller .ensures)
 
 size : (c : tie.After-sent-by Inv-loop μ-loop) → c .before .share-within .result * c .sent-by .result ≤ 255000000
 size c = product-most 255 1000000 (omega arith) (omega (arith, small c))
@@ -113,14 +113,16 @@ loop-again : tie.Need-loop-again Inv-loop μ-loop
 loop-again c =
     let inv = c .before .before .before .before .before .loop .inv in
     let start = c .before .before .before .before .before .before .before .before .before .before .before in
-    (omega arith, omega arith, summed-more _ _ _ _ _ _ _ _ _ _ _ (inv .2) (to-here (c .before .before .before)) (c .before .before .before .to-within .ensures .0) (times-same _ _ _ _ (c .before .before .share-within .ensures .0) (sent-two _ _ _ _ _ _ _ _ _ _ (start .pre .6) (c .before .before .before .before .before .before .before .before .smaller .ensures) (small (c .before)) (inv .0) (omega arith) (c .before .sent-by .ensures .0))) (size (c .before)))
+    (omega arith, omega arith, summed-more _ _ _ _ _ _ _ _ _ _ _ (inv .2) (to-here (c .before .before .before)) (c .before .before .before .to-within .ensures .0) (times-same _ _ _ _ (c .before .before .share-within .ensures .0) (sent-two _ _ _ _ _ _ _ _ _ _ (start .pre .6) refl (small (c .before)) (inv .0) (omega arith) (c .before .sent-by .ensures .0))) (size (c .before)))
 
 returns : tie.Need-returns Inv-loop μ-loop
 returns c =
     let start = c .before .before .before .before .before .before .before in
     let inv = c .before .loop .inv in
-    passing-done (start .args .s .now) _ (start .args .from) (c .before .loop .t) (start .args .end) (start .args .l) (100 * c .before .before .smaller2 .result) _ (start .args .ends .now) _
-    (inv .2) (omega arith) (omega (arith, start .pre .7)) (omega arith) (rw (c .before .before .smaller2 .ensures, c .before .before .before .before .smaller .ensures) refl)
+    rw (← c .before .before .before .before .smaller .ensures) (
+      passing-done (start .args .s .now) _ (start .args .sender .from) (c .before .loop .t) (start .args .sender .end) (start .args .sender .link) (100 * c .before .before .smaller2 .result) _ (start .args .ends .now) _
+      (inv .2) (omega arith) (omega (arith, start .pre .7)) (omega arith) (rw (c .before .before .smaller2 .ensures) refl)
+    )
 
 pub pass-on-spec : {M : Type 1} → statement M
 pass-on-spec =
