@@ -120,8 +120,8 @@ returns c =
     let start = c .before .before .before .before .before .before .before in
     let inv = c .before .loop .inv in
     rw (← c .before .before .before .before .smaller .ensures) (
-      passing-done (start .args .s .now) _ (start .args .sender .from) (c .before .loop .t) (start .args .sender .end) (start .args .sender .link) (100 * c .before .before .smaller2 .result) _ (start .args .ends .now) _
-      (inv .2) (omega arith) (omega (arith, start .pre .7)) (omega arith) (rw (c .before .before .smaller2 .ensures) refl)
+    passing-done (start .args .s .now) _ (start .args .sender .from) (c .before .loop .t) (start .args .sender .end) (start .args .sender .link) (100 * c .before .before .smaller2 .result) _ (start .args .ends .now) _
+    (inv .2) (omega arith) (omega (arith, start .pre .7)) (omega arith) (rw (c .before .before .smaller2 .ensures) refl)
     )
 
 pub pass-on-spec : {M : Type 1} → statement M
