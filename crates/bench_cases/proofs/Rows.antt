@@ -17,7 +17,7 @@ use Rattle.grid.specs.Successors.{imageLow, imageHigh, meets, isSuccessor}
 use Rattle.judging.specs.Lookup.{entryFor, isListed}
 use Rattle.judging.specs.Judging.{isSafe, isGoal, isRanked, standingFault, follows, isLower, successorFault, countAfter, lookFault, cellTurn, boxTurn, entryTurn, judgingFrom}
 use Rattle.judging.specs.Verdict.{verdictOf}
-use Rattle.controller.specs.Query.{isProper, lookupFault}
+use Rattle.judging.specs.Asking.{isProper, lookupFault}
 use Rattle.bench_cases.specs.Table.{Row, Question, Answer, answer, rows, AllMet}
 
 given : Row → Answer

@@ -12,7 +12,7 @@ use Rattle.network.specs.Flow.{next}
 use Rattle.network.specs.Conditions.{screeningOf}
 use Rattle.grid.specs.Successors.{imageLow, imageHigh}
 use Rattle.judging.specs.Verdict.{verdictOf}
-use Rattle.controller.specs.Query.{cellAsked, lookupFault}
+use Rattle.judging.specs.Asking.{cellAsked, lookupFault}
 use Rattle.bench_cases.specs.Papers.{paperOne, paperTwo, paperThree, paperFour, paperFive, twoLinks, redLink, twoIn, fork}
 
 -- what a row asks of a certificate

@@ -11,12 +11,5 @@ pub mod Agreement
 pub mod LongFront
 pub mod LongBack
 pub mod LongInput
-pub mod Cases
-pub mod TurnTotals
-pub mod EntryPairs
-pub mod Products
-pub mod Grid
-pub mod GridPlaces
-pub mod Stages
 pub mod Numbers
 pub mod Places

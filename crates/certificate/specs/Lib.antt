@@ -4,8 +4,6 @@ pub mod Loops
 pub mod Checks
 pub mod Layout
 pub mod Records
-pub mod Carried
 pub mod Reading
-pub mod Laid
 pub mod Facts
 pub mod Laws

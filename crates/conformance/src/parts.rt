@@ -1,6 +1,6 @@
 // Parts of slices.
 ghost use Prim.Native.Nat.{_≤_};
-use controller::filling;
+use octets::filling;
 
 // The first n elements, or none where there are fewer.
 pub fn front(bytes: &[u8], n: usize) -> &[u8] {

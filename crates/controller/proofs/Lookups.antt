@@ -1,17 +1,11 @@
 -- The laws of queries: which of 18, 16 and 19 is answered when, and what a query shows. Assumes nothing.
-use Prim.Native.Nat.{ℕ, _*_}
+use Prim.Native.Nat.{ℕ}
 use mathlib.Core.List.{List}
-use mathlib.Core.Bool.{Bool}
 use mathlib.Core.Path.{_≡_, refl, ap, _∙_}
 use mathlib.Core.Logic.{_⊎_, inl, inr, ⊎-elim}
 use native.Mathlib.Omega.{arith}
-use borrow.Author.Tests.{leb-true, le-leb}
-use lib.Dec.{leb}
 use Rattle.certificate.specs.Checks.{refusal, fine}
-use Rattle.certificate.specs.Layout.{linksOf, capOf}
 use Rattle.certificate.proofs.Tests.{need-pass, need-fail}
-use Rattle.certificate.proofs.Loops.{every-each, each-every}
-use Rattle.certificate.proofs.Says.{tests-say}
 use Rattle.judging.specs.Lookup.{isListed}
 use Rattle.judging.proofs.Deciding.{Tells, tells-split, tells-false}
 use Rattle.judging.proofs.Entries.{listed-tells}
@@ -19,20 +13,11 @@ use Rattle.runs.proofs.Lookup.{finds-entry}
 use Rattle.controller.specs.declared.Controller.{Controller}
 use Rattle.controller.specs.declared.Shown.{Shown}
 use Rattle.controller.specs.State.{stored}
-use Rattle.controller.specs.Query.{queueAt, isProper, cellAsked, lookupFault, queryFault, entryAsked, showing, refused, queryOf}
-use Rattle.controller.specs.Laws.{Holds, Proper, InForce, QueryEmpty, QueryImproper, QueryUnlisted, QuerySucceeds, QueryShows, QueryRefused, QueryNumbers}
+use Rattle.judging.specs.Asking.{cellAsked, lookupFault, Proper}
+use Rattle.controller.specs.Query.{queryFault, entryAsked, showing, refused, queryOf}
+use Rattle.controller.specs.Laws.{Holds, InForce, QueryEmpty, QueryImproper, QueryUnlisted, QuerySucceeds, QueryShows, QueryRefused, QueryNumbers}
 use Rattle.controller.proofs.Holding.{holds-is-plain}
-
-pub proper-tells : (s queues : List ℕ) (scale : ℕ) → Tells (isProper s queues scale) (Proper s queues scale)
-unfolding isProper
-proper-tells s queues scale =
-    simp tests-say (
-      λ h. record { scale-least = h .0 .0 .0; scale-most = h .0 .0 .1; number = h .0 .1; queue-most = λ l lt. leb-true _ _ (every-each (linksOf s) most (h .1) l lt) },
-      λ p. (((p .scale-least, p .scale-most), p .number), each-every (linksOf s) most (λ l lt. le-leb _ _ (p .queue-most l lt))),
-    )
-  where
-    most : ℕ → Bool
-    most l = leb (queueAt queues l) (capOf s l * scale)
+use Rattle.judging.proofs.Asking.{proper-tells}
 
 module _ (c : Controller) (queues : List ℕ) (scale : ℕ) where
   listed-tells-here : Tells (isListed (stored c) (cellAsked (stored c) queues scale) (c .mode)) ((e : ℕ) × InForce c queues scale e)

@@ -13,7 +13,8 @@ use Rattle.certificate.proofs.Says.{tests-say}
 use Rattle.judging.proofs.Deciding.{Tells, tells-split, tells-false}
 use Rattle.controller.specs.declared.Controller.{Controller}
 use Rattle.controller.specs.State.{stored, holdsCertificate}
-use Rattle.controller.specs.Write.{storing, hasRoom, writeFault, writeReport, writeBuffer}
+use Rattle.controller.specs.Parts.{storing}
+use Rattle.controller.specs.Write.{hasRoom, writeFault, writeReport, writeBuffer}
 use Rattle.controller.specs.Laws.{Holds, Room, WriteEmpty, WriteShort, WriteSucceeds, WriteDone, WriteRefused, WriteNumbers}
 use Rattle.controller.proofs.Holding.{holds-is-plain}
 

@@ -1,18 +1,19 @@
 -- What is proved of load, query and write, and of calls that follow one another (proofs/ of this crate). Statements only.
-use Prim.Native.Nat.{ℕ, _+_, _*_, _≤_, _<_}
+use Prim.Native.Nat.{ℕ, _+_, _≤_}
 use mathlib.Core.List.{List, [], _∷_, _++_}
 use mathlib.Core.Bool.{true}
 use mathlib.Core.Logic.{_↔_, _⊎_}
 use mathlib.Core.Path.{_≡_}
 use lib.ListN.{length, take, drop}
 use Rattle.certificate.specs.Checks.{result, refusal}
-use Rattle.certificate.specs.Layout.{maxLength, linksOf, capOf}
+use Rattle.certificate.specs.Layout.{maxLength}
 use Rattle.network.specs.Laws.{Screened}
 use Rattle.judging.specs.Verdict.{verdictOf}
 use Rattle.judging.specs.Conditions.{Lists}
 use Rattle.controller.specs.declared.Controller.{Controller}
 use Rattle.controller.specs.State.{freshState, holding, stored, holdsCertificate, loadOf}
-use Rattle.controller.specs.Query.{maxScale, queueAt, cellAsked, showing, refused, queryOf}
+use Rattle.judging.specs.Asking.{cellAsked, Proper}
+use Rattle.controller.specs.Query.{showing, refused, queryOf}
 use Rattle.controller.specs.Write.{writeReport, writeBuffer}
 
 -- The state.
@@ -44,13 +45,6 @@ LoadRefused =
     (c : Controller) (s : List ℕ) → (verdictOf s .number ≡ 0 → ⊥) → loadOf c s ≡ record { report = verdictOf s; state = c }
 
 -- Queries. The tests come in the order 18, 16, 19.
-
--- what 16 asks: scale 1 to 100,000, as many queues as links, no queue above cap × scale
-pub record Proper (s queues : List ℕ) (scale : ℕ) : Type 0 where
-  pub scale-least : 1 ≤ scale
-  pub scale-most : scale ≤ maxScale
-  pub number : length queues ≡ linksOf s
-  pub queue-most : (l : ℕ) → l < linksOf s → queueAt queues l ≤ capOf s l * scale
 
 -- entry e lists the queues' cell for the current mode
 abbrev pub InForce : Controller → List ℕ → ℕ → ℕ → Type 0

@@ -3,4 +3,4 @@ pub mod State
 pub mod Query
 pub mod Write
 pub mod Laws
-pub mod Asked
+pub mod Parts

@@ -1,44 +1,16 @@
 -- Looking up the signal to show. A query tests 18, 16, 19.
-use Prim.Native.Nat.{ℕ, _*_}
+use Prim.Native.Nat.{ℕ}
 use mathlib.Core.List.{List}
-use mathlib.Core.Bool.{Bool, cond}
-use lib.ListN.{length, getD}
-use lib.Dec.{leb, eqb}
+use mathlib.Core.Bool.{cond}
+use lib.Dec.{eqb}
 use Rattle.certificate.specs.declared.Report.{Report}
-use Rattle.certificate.specs.Octets.{_also_}
-use Rattle.certificate.specs.Loops.{every}
 use Rattle.certificate.specs.Checks.{refusal, fine, need}
-use Rattle.certificate.specs.Layout.{linksOf, capOf, greenByteOf, signalOf, nextModeOf}
-use Rattle.grid.specs.Cells.{cellAt}
-use Rattle.judging.specs.Lookup.{entryFor, isListed}
+use Rattle.certificate.specs.Layout.{greenByteOf, signalOf, nextModeOf}
+use Rattle.judging.specs.Lookup.{entryFor}
 use Rattle.controller.specs.declared.Controller.{Controller}
 use Rattle.controller.specs.declared.Shown.{Shown}
 use Rattle.controller.specs.State.{stored, holdsCertificate}
-
-abbrev pub maxScale : ℕ
-maxScale = 100000
-
--- a query's queue of link l, a whole number over the scale
-abbrev pub queueAt : List ℕ → ℕ → ℕ
-queueAt queues l = getD queues l 0
-
--- scale 1 to 100,000, as many queues as links, no queue above cap × scale (refusal 16 where not)
-unfoldable pub isProper : List ℕ → List ℕ → ℕ → Bool
-isProper s queues scale =
-    leb 1 scale also leb scale maxScale
-    also eqb (length queues) (linksOf s)
-    also every (linksOf s) (λ l. leb (queueAt queues l) (capOf s l * scale))
-
--- the queues' cell
-abbrev pub cellAsked : List ℕ → List ℕ → ℕ → ℕ
-cellAsked s queues scale = cellAt s scale (queueAt queues)
-
--- 16, then 19: no entry for the queues' cell in the current mode
-unfoldable pub lookupFault : List ℕ → ℕ → List ℕ → ℕ → Report
-lookupFault s mode queues scale =
-    need (isProper s queues scale) (refusal 16 0)
-    (need (isListed s (cellAsked s queues scale) mode) (refusal 19 0)
-    fine)
+use Rattle.judging.specs.Asking.{cellAsked, lookupFault}
 
 unfoldable pub queryFault : Controller → List ℕ → ℕ → Report
 queryFault c queues scale =

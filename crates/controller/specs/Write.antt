@@ -9,10 +9,6 @@ use Rattle.certificate.specs.Checks.{result, refusal, fine, need}
 use Rattle.controller.specs.declared.Controller.{Controller}
 use Rattle.controller.specs.State.{stored, holdsCertificate}
 
--- a state that stores the first n of the bytes; writing does not read its mode
-abbrev pub storing : List ℕ → ℕ → Controller
-storing bytes n = record { bytes = bytes; len = n; mode = 0 }
-
 -- the start does not lie beyond the buffer, and the part from there is no shorter than the certificate (refusal 17 where not)
 unfoldable pub hasRoom : Controller → List ℕ → ℕ → Bool
 hasRoom c buffer start = leb start (length buffer) && leb (c .len) (length buffer - start)

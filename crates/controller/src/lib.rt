@@ -2,14 +2,10 @@
 ghost use mathlib.Core.Path.{_≡_};
 ghost use Rattle.controller.specs.State.{freshState};
 use certificate::Report;
-use certificate::limits;
+use octets::limits;
 
-mod asking;
-pub mod filling;
 mod loading;
-mod proper;
 mod querying;
-mod stored;
 mod writing;
 
 // The state by value: the stored certificate's bytes, how many there are, and the mode.
@@ -46,7 +42,7 @@ impl Controller {
         + limits::END_SIZE;
 
     // The scales that a query may use: 1 to this.
-    pub const MAX_SCALE: u32 = 100000;
+    pub const MAX_SCALE: u32 = limits::MAX_SCALE;
 
     // The fresh state: mode 0, and no certificate.
     pub fn fresh() -> Controller

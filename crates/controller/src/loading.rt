@@ -7,8 +7,7 @@ ghost use Rattle.runs.specs.Claim.{RunClaim};
 ghost use Rattle.controller.specs.State.{holding, loadOf};
 use crate::Controller;
 use crate::Loaded;
-use crate::filling;
-use judging::verdict;
+use octets::filling;
 
 impl Controller {
     // The state that holds a copy of s, in mode 0, with zeros past the copy.

@@ -3,7 +3,6 @@ ghost use mathlib.Core.Path.{_≡_};
 ghost use Rattle.controller.specs.Query.{queryOf};
 use crate::Controller;
 use crate::Shown;
-use crate::asking;
 
 impl Controller {
     // The signal to show for queues over a scale, and the state in the next mode; a refusal changes nothing.

@@ -5,12 +5,12 @@ ghost use Prim.Native.Nat.{_≤_};
 ghost use lib.ListN.{length};
 ghost use Rattle.certificate.specs.Layout.{maxLength};
 ghost use Rattle.controller.specs.State.{holdsCertificate};
-ghost use Rattle.controller.specs.Write.{storing, writeReport, writeBuffer};
+ghost use Rattle.controller.specs.Parts.{storing};
+ghost use Rattle.controller.specs.Write.{writeReport, writeBuffer};
 use crate::Controller;
-use crate::filling;
-use crate::stored;
+use asking::stored;
 use certificate::Report;
-use certificate::octets;
+use octets::filling;
 
 // Writes the certificate that the first n of the bytes are into the buffer from start on; A is its length.
 // Refusal 17: the start lies beyond the buffer, or the part from there is too short.

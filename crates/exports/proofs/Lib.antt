@@ -1,4 +1,1 @@
 pub mod Front
-pub mod Packing
-pub mod Octets
-pub mod Passing

@@ -9,7 +9,7 @@ use Rattle.controller.specs.Query.{queryOf}
 use Rattle.controller.specs.Write.{writeReport, writeBuffer}
 use Rattle.listing.specs.Listing.{listReport, listBuffer}
 use Rattle.exports.specs.Exported.{overReport}
-use Rattle.exports.specs.State.{stateSize, stateOf, overState}
+use Rattle.packed_state.specs.State.{stateSize, stateOf, overState}
 
 -- a query's answer at the front of a lent slice: its report, the signal, its green byte
 abbrev pub overShown : Shown → List ℕ → List ℕ

@@ -1,4 +1,2 @@
 pub mod Exported
-pub mod State
 pub mod Calls
-pub mod Laws

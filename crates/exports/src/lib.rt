@@ -7,9 +7,6 @@ ghost use Rattle.network.specs.Conditions.{screeningOf};
 ghost use Rattle.judging.specs.Verdict.{verdictOf};
 ghost use Rattle.exports.specs.Exported.{overReport, Answers};
 ghost use Rattle.exports.specs.Calls.{Lists, Loads, Queries, Writes};
-
-mod state;
-
 use certificate::Report;
 
 // The four numbers of a report go to the front of `out`; the result is the report's number.
@@ -44,7 +41,7 @@ pub extern "C" fn dergvost_screen(s: &[u8], out: &mut [u32]) -> u32
     if out.len() < 4 {
         return 255;
     }
-    let found = network::screen::screen(s);
+    let found = screening::screen::screen(s);
     put_report(found.report, out)
 }
 
@@ -56,7 +53,7 @@ pub extern "C" fn dergvost_judge(s: &[u8], out: &mut [u32]) -> u32
     if out.len() < 4 {
         return 255;
     }
-    let verdict = judging::verdict::judge(s);
+    let verdict = verdict::judge(s);
     put_report(verdict, out)
 }
 
@@ -77,17 +74,17 @@ pub extern "C" fn dergvost_list(s: &[u8], buffer: &mut [u8], out: &mut [u32]) ->
 pub extern "C" fn dergvost_load(state: &mut [u8], s: &[u8], out: &mut [u32]) -> u32
     ensures { λ r. ⌜ Loads (now (s .entry)) (now (state .entry)) (now (state .exit)) (now (out .entry)) (now (out .exit)) r ⌝ }
 {
-    if state.len() < state::STATE_SIZE {
+    if state.len() < packed_state::STATE_SIZE {
         return 255;
     }
     if out.len() < 4 {
         return 255;
     }
-    let held = state::unpack(state);
+    let held = packed_state::unpack(state);
     let loaded = held.load(s);
     let report = loaded.report;
     let next = loaded.state;
-    state::pack(next, state);
+    packed_state::pack(next, state);
     put_report(report, out)
 }
 
@@ -101,19 +98,19 @@ pub extern "C" fn dergvost_query(
 ) -> u32
     ensures { λ r. ⌜ Queries (now (queues .entry)) scale (now (state .entry)) (now (state .exit)) (now (out .entry)) (now (out .exit)) r ⌝ }
 {
-    if state.len() < state::STATE_SIZE {
+    if state.len() < packed_state::STATE_SIZE {
         return 255;
     }
     if out.len() < 6 {
         return 255;
     }
-    let held = state::unpack(state);
+    let held = packed_state::unpack(state);
     let shown = held.query(queues, scale);
     let report = shown.report;
     let signal = shown.signal;
     let green = shown.green;
     let next = shown.state;
-    state::pack(next, state);
+    packed_state::pack(next, state);
     put_shown(report, signal, green, out)
 }
 
@@ -127,13 +124,13 @@ pub extern "C" fn dergvost_write(
 ) -> u32
     ensures { λ r. ⌜ Writes (now (state .entry)) start (now (buffer .entry)) (now (buffer .exit)) (now (out .entry)) (now (out .exit)) r ⌝ }
 {
-    if state.len() < state::STATE_SIZE {
+    if state.len() < packed_state::STATE_SIZE {
         return 255;
     }
     if out.len() < 4 {
         return 255;
     }
-    let held = state::unpack(state);
+    let held = packed_state::unpack(state);
     let report = held.write(buffer, start);
     put_report(report, out)
 }

@@ -4,12 +4,3 @@ pub mod Intervals
 pub mod Images
 pub mod Meets
 pub mod Successors
-pub mod Blocks
-pub mod Filling
-pub mod Ranging
-pub mod Jumps
-pub mod Moves
-pub mod Runs
-pub mod Odometer
-pub mod Lists
-pub mod Locating

@@ -8,15 +8,5 @@ pub mod Counting
 pub mod Stages
 pub mod Outcome
 pub mod Verdicts
-pub mod Finding
-pub mod Bisecting
-pub mod Ranking
-pub mod Chaining
-pub mod Successors
-pub mod Searching
-pub mod Places
-pub mod Edges
 pub mod PlaceBounds
-pub mod Ranged
-pub mod Arriving
-pub mod Judge
+pub mod Asking

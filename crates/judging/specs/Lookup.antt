@@ -1,12 +1,10 @@
 -- Looking up the entry of a cell and a mode.
-use Prim.Native.Nat.{ℕ, _+_, _*_, _≤_, _<_}
+use Prim.Native.Nat.{ℕ}
 use mathlib.Core.List.{List}
 use mathlib.Core.Bool.{Bool, _&&_}
-use mathlib.Core.Path.{_≡_}
-use lib.Dec.{eqb, leb, ltb}
-use lib.ListN.{getD}
-use Rattle.certificate.specs.Loops.{pick, find}
-use Rattle.certificate.specs.Layout.{modesOf, entriesOf, cellsOf, cellOf, modeOf, rankOf}
+use lib.Dec.{eqb, ltb}
+use Rattle.certificate.specs.Loops.{find}
+use Rattle.certificate.specs.Layout.{entriesOf, cellOf, modeOf}
 
 -- entry e has the pair (c, m)
 abbrev pub isFor : List ℕ → ℕ → ℕ → ℕ → Bool
@@ -19,27 +17,3 @@ entryFor s c m = find (entriesOf s) (isFor s c m)
 -- cell c is listed for mode m: the certificate has an EN record with that pair
 unfoldable pub isListed : List ℕ → ℕ → ℕ → Bool
 isListed s c m = ltb (entryFor s c m) (entriesOf s)
-
--- the first entry at or above cell c, and the number of entries where there is none: the index by cell
-unfoldable pub entryFrom : List ℕ → ℕ → ℕ
-entryFrom s c = find (entriesOf s) (λ e. leb c (cellOf s e))
-
--- a table of first entries: element d is the first entry at or above cell d, for every cell and the end
-abbrev pub IsIndex : List ℕ → List ℕ → Type 0
-IsIndex s index = (d : ℕ) → d ≤ cellsOf s → getD index d 0 ≡ entryFrom s d
-
--- the cells of the entries ascend: those of one cell stand one after another
-abbrev pub CellsAscend : List ℕ → Type 0
-CellsAscend s = (e f : ℕ) → e ≤ f → f < entriesOf s → cellOf s e ≤ cellOf s f
-
--- the rank of the entry of cell d and mode m, raised by one; 0 where the pair is not listed
-unfoldable pub rankAt : List ℕ → ℕ → ℕ → ℕ
-rankAt s d m = pick (isListed s d m) (rankOf s (entryFor s d m) + 1) 0
-
--- a table of these, the cells of one mode after those of the mode before it
-abbrev pub RanksOf : List ℕ → List ℕ → Type 0
-RanksOf s a = (m d : ℕ) → m < modesOf s → d < cellsOf s → getD a (m * cellsOf s + d) 0 ≡ rankAt s d m
-
--- the entries of cell d stand from first to before end
-abbrev pub CellFrom : List ℕ → ℕ → ℕ → ℕ → Type 0
-CellFrom s d first end = (first ≡ entryFrom s d) × (end ≡ entryFrom s (d + 1))

@@ -4,13 +4,15 @@ use mathlib.Core.List.{List}
 use mathlib.Core.Path.{_≡_, sym, _∙_, ap}
 use native.Mathlib.Omega.{arith}
 use Rattle.certificate.specs.declared.Report.{Report}
-use Rattle.certificate.specs.declared.reading.Reading.{Reading}
-use Rattle.certificate.specs.Laid.{ReadAs}
+use Rattle.reading.specs.declared.Reading.{Reading}
+use Rattle.reading.specs.Laid.{ReadAs}
 use Rattle.network.specs.Conditions.{screeningOf}
 use Rattle.network.proofs.Screening.{screening-is-plain}
 use Rattle.judging.specs.Verdict.{verdictOf}
 use Rattle.judging.proofs.Verdicts.{accepted-is-plain}
-use Rattle.listing.specs.Listing.{EntriesAt, acceptedText, refusedLine, listingOf, Sent}
+use Rattle.listing.specs.Entries.{EntriesAt}
+use Rattle.listing.specs.Listing.{acceptedText, listingOf, Sent}
+use Rattle.listing_lines.specs.Lines.{refusedLine}
 use Rattle.listing.proofs.Sending.{text-accepted, text-refused, listed}
 
 module _ (s : List ℕ) (r : Report) (verdict : r ≡ verdictOf s) {buffer after : List ℕ} {answer : Report} where

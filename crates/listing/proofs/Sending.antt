@@ -9,8 +9,9 @@ use Rattle.certificate.specs.declared.Report.{Report}
 use Rattle.certificate.specs.Checks.{result, refusal, need}
 use Rattle.certificate.specs.Layout.{entriesOf}
 use Rattle.judging.specs.Verdict.{verdictOf}
-use Rattle.listing.specs.Place.{written, Put}
-use Rattle.listing.specs.Listing.{countsLine, entryLines, acceptedLine, refusedLine, acceptedText, textOf, listingOf, sendReport, sendBuffer, Sent}
+use Rattle.text.specs.Place.{written, Put}
+use Rattle.listing_lines.specs.Lines.{countsLine, entryLines, acceptedLine, refusedLine}
+use Rattle.listing.specs.Listing.{acceptedText, textOf, listingOf, sendReport, sendBuffer, Sent}
 
 module _ {text buffer : List ℕ} {answer : Report} where
   -- a text longer than the buffer: 17, and the buffer as it was

@@ -1,4 +1,3 @@
--- The text of a listing, and where it is written.
-pub mod Text
-pub mod Place
+-- The text of a listing, and what the code goes by.
 pub mod Listing
+pub mod Entries

@@ -1,15 +1,10 @@
 // The listing of a certificate as text.
 ghost use Rattle.listing.specs.Listing.{listingOf, Sent};
 
-mod fields;
-mod lengths;
-mod lines;
-pub mod render;
-mod text;
+mod render;
 
 use certificate::Report;
-use judging::verdict;
-use network::screen;
+use screening::screen;
 
 // Renders the listing of s into the front of the lent buffer: 0 with A the length of the text, or 17 and the buffer as it was.
 pub fn list(s: &[u8], buffer: &mut [u8]) -> Report

@@ -3,13 +3,14 @@ ghost use mathlib.Core.Path.{_≡_};
 ghost use Prim.Native.Nat.{_≤_};
 ghost use lib.ListN.{length};
 ghost use Rattle.certificate.specs.Checks.{result};
-ghost use Rattle.listing.specs.Place.{Room, Put};
-ghost use Rattle.listing.specs.Listing.{EntriesAt, refusedLine, acceptedText, textOf, Sent};
-use crate::fields;
-use crate::lengths;
-use crate::lines;
+ghost use Rattle.text.specs.Place.{Room, Put};
+ghost use Rattle.listing.specs.Entries.{EntriesAt};
+ghost use Rattle.listing_lines.specs.Lines.{refusedLine};
+ghost use Rattle.listing.specs.Listing.{acceptedText, textOf, Sent};
 use certificate::Report;
-use certificate::octets;
+use listing_lines::fields;
+use listing_lines::lengths;
+use listing_lines::lines;
 
 // The answer for a text of this length.
 fn sent(size: usize) -> Report
@@ -67,16 +68,4 @@ pub fn render_refused(report: Report, buffer: &mut [u8]) -> Report
     }
     lines::put_refused(buffer, 0, report);
     sent(size)
-}
-
-// The listing of s under a report. Where it is accepted, `start` is where the records of its entries begin.
-pub fn render(s: &[u8], start: usize, report: Report, buffer: &mut [u8]) -> Report
-    requires { ⌜ (report .number ≡ 0 → EntriesAt (now s) start) ⌝ }
-    ensures { λ r. ⌜ Sent (textOf (now (s .entry)) report) (now (buffer .entry)) (now (buffer .exit)) r ⌝ }
-{
-    if report.number == 0 {
-        render_accepted(s, start, report, buffer)
-    } else {
-        render_refused(report, buffer)
-    }
 }

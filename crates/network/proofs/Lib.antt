@@ -1,4 +1,4 @@
--- The laws of the flow rule, of the image of a box, of the tests before 12, and of the arrays by which the code goes.
+-- The laws of the flow rule, of the image of a box, and of the tests before 12.
 pub mod Sending
 pub mod Passing
 pub mod Monotone
@@ -6,16 +6,3 @@ pub mod Scale
 pub mod Fits
 pub mod SmallestBox
 pub mod Screening
-pub mod Summing
-pub mod Picking
-pub mod Bounds
-pub mod Least
-pub mod TwoLeast
-pub mod Filling
-pub mod Corners
-pub mod Outward
-pub mod Finding
-pub mod Sides
-pub mod Arriving
-pub mod Fitting
-pub mod Screens

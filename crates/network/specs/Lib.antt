@@ -5,4 +5,3 @@ pub mod Conditions
 pub mod Image
 pub mod Sound
 pub mod Laws
-pub mod Roads

@@ -6,7 +6,7 @@ use native.Mathlib.Nat.{le-refl}
 use lib.ListN.{length, length-replicate}
 use Rattle.certificate.specs.Layout.{maxLength}
 use Rattle.controller.specs.declared.Controller.{Controller}
-use Rattle.controller.proofs.Copying.{copied-all}
+use Rattle.octets.proofs.Copying.{copied-all}
 use Rattle.controller.proofs.Controller.holding.Statement.{statement}
 use Rattle.controller.proofs.Controller.holding.Tie as tie
 

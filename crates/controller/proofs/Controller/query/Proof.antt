@@ -2,9 +2,9 @@
 use mathlib.Core.Path.{_≡_, ap, _∙_}
 use lib.ListN.{length}
 use Rattle.certificate.specs.Layout.{maxLength}
-use Rattle.controller.specs.declared.asking.Found.{Found}
-use Rattle.controller.specs.Asked.{shownBy}
-use Rattle.controller.proofs.Answers.{query-asks}
+use Rattle.asking.specs.declared.Found.{Found}
+use Rattle.controller.specs.Parts.{shownBy}
+use Rattle.controller.proofs.Held.{query-asks}
 use borrow.Author.Needs.{needs}
 use Rattle.controller.proofs.Controller.query.Statement.{statement}
 use Rattle.controller.proofs.Controller.query.Tie as tie

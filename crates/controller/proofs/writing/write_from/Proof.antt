@@ -1,7 +1,7 @@
 -- `controller::writing::write_from` meets its contract. Assumes nothing.
 use mathlib.Core.Path.{sym, _∙_}
-use Rattle.controller.specs.Write.{storing}
-use Rattle.controller.proofs.Answers.{held, not-held}
+use Rattle.controller.specs.Parts.{storing}
+use Rattle.controller.proofs.Held.{held, not-held}
 use Rattle.controller.proofs.Writings.{none-held}
 use borrow.Author.Needs.{needs}
 use Rattle.controller.proofs.writing.write_from.Statement.{statement}

@@ -4,8 +4,8 @@ use mathlib.Core.Path.{sym, _∙_}
 use native.Mathlib.Omega.{arith}
 use Rattle.certificate.specs.Layout.{maxLength}
 use Rattle.controller.specs.State.{stored}
-use Rattle.controller.specs.Write.{storing}
-use Rattle.controller.proofs.Copying.{put-back}
+use Rattle.controller.specs.Parts.{storing}
+use Rattle.octets.proofs.Copying.{put-back}
 use Rattle.controller.proofs.Holding.{holds-is-plain}
 use Rattle.controller.proofs.Writings.{wrote, too-short}
 use borrow.Author.Needs.{needs}

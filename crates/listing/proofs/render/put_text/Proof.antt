@@ -2,7 +2,7 @@
 use borrow.Author.Needs.{needs}
 use native.Mathlib.Omega.{arith}
 use Rattle.listing.specs.Listing.{acceptedText}
-use Rattle.listing.proofs.Placing.{room-first, rest-start, rest-next, rest-last}
+use Rattle.text.proofs.Placing.{room-first, rest-start, rest-next, rest-last}
 use Rattle.listing.proofs.render.put_text.Statement.{statement}
 use Rattle.listing.proofs.render.put_text.Tie as tie
 

@@ -1,0 +1,128 @@
+-- From what the code finds in the array's bytes to what a query and a write answer. Assumes nothing.
+use Prim.Native.Nat.{ℕ, _+_, _*_, _≤_, _<_}
+use mathlib.Core.List.{List}
+use mathlib.Core.Bool.{Bool, true, false}
+use mathlib.Core.Path.{_≡_, sym, ap, _∙_}
+use native.Mathlib.Nat.{mul-comm}
+use native.Mathlib.Omega.{arith}
+use borrow.Author.Tests.{leb-true, le-leb, lt-leb, lt-ltb, le-ltb, eq-eqb, ne-eqb}
+use lib.Dec.{leb, ltb}
+use lib.ListN.{length, take}
+use Rattle.certificate.specs.declared.Report.{Report}
+use Rattle.reading.specs.declared.Reading.{Reading}
+use Rattle.certificate.specs.Checks.{refusal, fine}
+use Rattle.certificate.specs.Loops.{everyFrom}
+use Rattle.certificate.specs.Layout.{linksOf, capOf, entriesOf}
+use Rattle.certificate.specs.Facts.{Readable}
+use Rattle.reading.specs.Laid.{ReadAs, noLayout}
+use Rattle.certificate.proofs.Tests.{need-both, need-pass, need-fail}
+use Rattle.octets.proofs.Cases.{pass, fail}
+use Rattle.certificate.proofs.Loops.{every-turn, every-end}
+use Rattle.network.specs.Conditions.{screeningOf}
+use Rattle.network.proofs.Screening.{screening-is-plain}
+use Rattle.cell_tables.specs.Tables.{QueuesFit}
+use Rattle.judging.specs.Lookup.{entryFor, isListed}
+use Rattle.asking.specs.declared.Found.{Found}
+use Rattle.judging.specs.Asking.{queueAt, isProper, cellAsked, lookupFault, Proper}
+use Rattle.asking.specs.Asked.{storedFault, foundAt, notFound, lookupOf, askedOf}
+use Rattle.judging.proofs.Asking.{proper-tells}
+
+-- the loop that compares each queue with cap times the scale: it goes on, stops, ends
+module _ (s queues : List ℕ) (scale links : ℕ) where
+  -- the tests from link k on
+  abbrev pub fitFrom : ℕ → Bool
+  fitFrom k = everyFrom links (λ i. leb (queueAt queues i) (capOf s i * scale)) k
+
+  module _ (l q cap unit : ℕ) (queue : q ≡ queueAt queues l) (most : cap ≡ capOf s l) (scaled : unit ≡ scale) (inside : l < links) (same : fitFrom l ≡ fitFrom 0) where
+    pub fit-on : q ≤ cap * unit → fitFrom (l + 1) ≡ fitFrom 0
+    fit-on le =
+        let e : leb (queueAt queues l) (capOf s l * scale) ≡ true = rw (← queue, ← most, ← scaled) (le-leb _ _ le) in
+        sym (every-turn links l _ inside ∙ rw e) ∙ same
+
+    pub fit-stop : cap * unit < q → false ≡ fitFrom 0
+    fit-stop lt =
+        let e : leb (queueAt queues l) (capOf s l * scale) ≡ false = rw (← queue, ← most, ← scaled) (lt-leb _ _ lt) in
+        sym (every-turn links l _ inside ∙ rw e) ∙ same
+
+  pub fit-end : (l : ℕ) → links ≤ l → fitFrom l ≡ fitFrom 0 → true ≡ fitFrom 0
+  fit-end l le same = sym (every-end links l _ le) ∙ same
+
+-- the stored bytes are screened where the array has that many
+module _ (bytes : List ℕ) (n : ℕ) (r : Reading) where
+  pub too-many : length bytes < n → {f : Report} → f ≡ refusal 18 0 → (r .report ≡ f) × (r .layout ≡ noLayout) → ReadAs (take n bytes) (storedFault bytes n) r
+  unfolding storedFault
+  too-many lt e (same, none) =
+      let is : r .report ≡ refusal 18 0 = same ∙ e in
+      record {
+        report-is = fail _ _ _ _ (lt-leb _ _ lt) is;
+        laid = λ z. let eighteen = ap (λ (x : Report). x .number) is in absurd (omega arith);
+        none = λ _. none;
+      }
+
+  pub screened : n ≤ length bytes → ReadAs (take n bytes) (screeningOf (take n bytes)) r → ReadAs (take n bytes) (storedFault bytes n) r
+  unfolding storedFault
+  screened le a = record { report-is = pass _ _ _ _ (le-leb _ _ le) (a .report-is); laid = a .laid; none = a .none }
+
+  -- bytes that pass are a readable certificate, and there are as many
+  module _ (a : ReadAs (take n bytes) (storedFault bytes n) r) (z : r .report .number ≡ 0) where
+    passed : (leb n (length bytes) ≡ true) × (screeningOf (take n bytes) .number ≡ 0)
+    unfolding storedFault
+    passed = need-both _ _ _ (λ e. omega arith) (rw (a .report-is) at z)
+
+    pub enough : n ≤ length bytes
+    enough = leb-true _ _ (passed .0)
+
+    pub readable : Readable (take n bytes)
+    readable = screening-is-plain (take n bytes) .0 (passed .1) .readable
+
+-- looking up in a readable certificate
+module _ (s : List ℕ) (mode : ℕ) (queues : List ℕ) (scale : ℕ) where
+  -- 16
+  pub finds-improper : {r : Found} → isProper s queues scale ≡ false → r ≡ notFound (refusal 16 0) mode → r ≡ lookupOf s mode queues scale
+  unfolding lookupOf lookupFault
+  finds-improper bad e =
+      let fault : lookupFault s mode queues scale ≡ refusal 16 0 = need-fail _ _ _ bad in
+      e ∙ rw fault
+
+  module _ (ok : isProper s queues scale ≡ true) where
+    proper : Proper s queues scale
+    proper = proper-tells s queues scale .0 ok
+
+    -- what finding the cell asks
+    pub as-many : {links : ℕ} → links ≡ linksOf s → length queues ≡ links
+    as-many w = proper .number ∙ sym w
+
+    pub scale-fits : scale ≤ 100000
+    scale-fits = proper .scale-most
+
+    pub queues-fit : QueuesFit s scale queues
+    queues-fit l lt = rw (mul-comm scale (capOf s l)) (proper .queue-most l lt)
+
+    module _ {cell e entries : ℕ} (asked : cell ≡ cellAsked s queues scale) (is : e ≡ entryFor s cell mode) (all : entries ≡ entriesOf s) where
+      listed : (b : Bool) → ltb e entries ≡ b → isListed s (cellAsked s queues scale) mode ≡ b
+      unfolding isListed
+      listed b t = rw (← asked, ← is, ← all) t
+
+      -- 19
+      pub finds-none : {r : Found} → entries ≤ e → r ≡ notFound (refusal 19 0) mode → r ≡ lookupOf s mode queues scale
+      unfolding lookupOf lookupFault
+      finds-none beyond w =
+          let fault : lookupFault s mode queues scale ≡ refusal 19 0 = need-pass _ _ _ ok ∙ need-fail _ _ _ (listed false (le-ltb _ _ beyond)) in
+          w ∙ rw fault
+
+      pub finds : {r : Found} → e < entries → r ≡ foundAt s e → r ≡ lookupOf s mode queues scale
+      unfolding lookupOf lookupFault
+      finds inside w =
+          let fault : lookupFault s mode queues scale ≡ fine = need-pass _ _ _ ok ∙ need-pass _ _ _ (listed true (lt-ltb _ _ inside)) in
+          let entry : entryFor s (cellAsked s queues scale) mode ≡ e = rw (← asked) (sym is) in
+          w ∙ rw (fault, entry)
+
+-- looking up in the first n bytes of an array
+module _ (bytes : List ℕ) (n mode : ℕ) (queues : List ℕ) (scale : ℕ) {f : Report} (screening : f ≡ storedFault bytes n) {r : Found} where
+  pub asks-none : (f .number ≡ 0 → ⊥) → r ≡ notFound (refusal 18 0) mode → r ≡ askedOf bytes n mode queues scale
+  unfolding askedOf
+  asks-none bad w = w ∙ rw (← screening, ne-eqb (f .number) 0 bad)
+
+  pub asks : f .number ≡ 0 → r ≡ lookupOf (take n bytes) mode queues scale → r ≡ askedOf bytes n mode queues scale
+  unfolding askedOf
+  asks z w = w ∙ rw (← screening, eq-eqb (f .number) 0 z)

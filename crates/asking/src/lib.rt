@@ -1,0 +1,86 @@
+// Looking up a query's entry in the bytes of a certificate: the tests 18, 16, 19, in that order.
+ghost use mathlib.Core.Path.{_≡_};
+ghost use Prim.Native.Nat.{_≤_};
+ghost use Rattle.certificate.specs.Checks.{refusal};
+ghost use Rattle.certificate.specs.Facts.{Readable};
+ghost use Rattle.reading.specs.Laid.{LaidOut};
+ghost use Rattle.asking.specs.Asked.{foundAt, notFound, lookupOf, askedOf};
+
+mod proper;
+pub mod stored;
+
+use cell_tables::queues as grid_queues;
+use certificate::Report;
+use entry_records::entries;
+use rank_tables::lookup;
+use road_records::signals;
+
+// What a query finds: its report, the signal and its green byte, and the mode that the state passes to.
+pub struct Found {
+    pub report: Report,
+    pub signal: u8,
+    pub green: u8,
+    pub mode: u8,
+}
+
+// A refusal: nothing is shown, and the mode stays.
+fn not_found(number: u8, mode: u8) -> Found
+    ensures { λ r. ⌜ r ≡ notFound (refusal number 0) mode ⌝ }
+{
+    let report = octets::refuse(number, 0);
+    Found {
+        report,
+        signal: 0,
+        green: 0,
+        mode,
+    }
+}
+
+// What entry e says.
+fn found_at(s: &[u8], layout: reading::Layout, e: usize) -> Found
+    requires { ⌜ LaidOut (now s) layout × (e ≤ 4096) ⌝ }
+    ensures { λ r. ⌜ r ≡ foundAt (now (s .entry)) e ⌝ }
+{
+    let start = layout.entries_start;
+    let signal = entries::signal_of(s, start, e);
+    let green = signals::green_byte_of(s, layout.signals_start, signal);
+    let mode = entries::next_mode_of(s, start, e);
+    let report = octets::accept();
+    Found {
+        report,
+        signal: signal as u8,
+        green: green as u8,
+        mode: mode as u8,
+    }
+}
+
+// Looks up in a certificate whose layout is known.
+fn look_up(s: &[u8], layout: reading::Layout, mode: u8, queues: &[u32], scale: u32) -> Found
+    requires { ⌜ LaidOut (now s) layout × Readable (now s) ⌝ }
+    ensures { λ r. ⌜ r ≡ lookupOf (now (s .entry)) mode (now (queues .entry)) scale ⌝ }
+{
+    let links = layout.links;
+    if !proper::is_proper(s, links, queues, scale) {
+        return not_found(16, mode);
+    }
+    let places = layout.grids;
+    let cell = grid_queues::cell_at(s, &places, links, queues, scale);
+    let entries = layout.entries;
+    let e = lookup::find_entry(s, layout.entries_start, entries, cell, mode as usize);
+    if e >= entries {
+        return not_found(19, mode);
+    }
+    found_at(s, layout, e)
+}
+
+// Looks up in the first n of the bytes, where they are a certificate.
+pub fn ask(bytes: &[u8], n: usize, mode: u8, queues: &[u32], scale: u32) -> Found
+    ensures { λ r. ⌜ r ≡ askedOf (now (bytes .entry)) n mode (now (queues .entry)) scale ⌝ }
+{
+    let read = stored::stored_reading(bytes, n);
+    let f = read.report;
+    if f.number != 0 {
+        return not_found(18, mode);
+    }
+    look_up(&bytes[0..n], read.layout, mode, queues, scale)
+}

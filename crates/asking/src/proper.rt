@@ -1,0 +1,47 @@
+// What refusal 16 asks of a query: its scale, the number of its queues, and each queue.
+ghost use mathlib.Core.Path.{_≡_};
+ghost use Prim.Native.Nat.{_*_, _≤_, _<_};
+ghost use lib.Dec.{leb};
+ghost use Rattle.certificate.specs.Loops.{every};
+ghost use Rattle.certificate.specs.Layout.{linksOf, capOf};
+ghost use Rattle.judging.specs.Asking.{queueAt, isProper};
+use octets::limits;
+use road_records::links;
+
+fn wide(x: u32) -> usize
+    ensures { λ r. ⌜ (r ≡ x) × (r ≤ 4294967295) ⌝ }
+{
+    x as usize
+}
+
+// The queue of a link, 0 past the end.
+fn queue_at(queues: &[u32], l: usize) -> usize
+    ensures { λ r. ⌜ r ≡ queueAt (now (queues .entry)) l ⌝ }
+{
+    if l < queues.len() { wide(queues[l]) } else { 0 }
+}
+
+// No queue is above cap times the scale.
+fn queues_fit(s: &[u8], links: usize, queues: &[u32], scale: u32) -> bool
+    requires { ⌜ links ≤ 8 ⌝ }
+    ensures { λ r. ⌜ r ≡ every links (λ l. leb (queueAt (now (queues .entry)) l) (capOf (now (s .entry)) l * scale)) ⌝ }
+{
+    let unit = wide(scale);
+    for l in 0..links {
+        if queue_at(queues, l) > links::cap_of(s, l) * unit {
+            return false;
+        }
+    }
+    true
+}
+
+// Scale 1 to 100,000, as many queues as links, and no queue too long.
+pub fn is_proper(s: &[u8], links: usize, queues: &[u32], scale: u32) -> bool
+    requires { ⌜ (links ≤ 8) × (links ≡ linksOf (now s)) ⌝ }
+    ensures { λ r. ⌜ r ≡ isProper (now (s .entry)) (now (queues .entry)) scale ⌝ }
+{
+    (1 <= scale)
+        & (scale <= limits::MAX_SCALE)
+        & (queues.len() == links)
+        & queues_fit(s, links, queues, scale)
+}

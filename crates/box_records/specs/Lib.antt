@@ -1,0 +1,2 @@
+-- What the code that reads grids goes by.
+pub mod GridRecords

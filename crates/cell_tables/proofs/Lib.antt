@@ -1,0 +1,4 @@
+pub mod Blocks
+pub mod Filling
+pub mod Locating
+pub mod Weights

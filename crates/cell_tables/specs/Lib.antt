@@ -1,0 +1,2 @@
+-- The tables that the code makes of a grid.
+pub mod Tables

@@ -1,0 +1,50 @@
+// The interval of each link in each cell, eight a cell. `counts` and `weights` are those of the links. A link's interval is one higher
+// one weight of cells later, and the same again one round of its intervals later, so each is found by one before it.
+ghost use mathlib.Core.Path.{_≡_};
+ghost use Prim.Native.Nat.{_<_};
+ghost use Rattle.certificate.specs.Layout.{cellsOf};
+ghost use Rattle.cell_tables.specs.Tables.{Holds, GridOf, digitEntry, DigitsOf};
+
+// Entry k: the interval of link k % 8 in cell k / 8, and 0 for a link that does not exist. The entries before it are filled.
+fn digit_at(
+    s: &[u8],
+    counts: &[usize; 8],
+    weights: &[usize; 8],
+    links: usize,
+    digits: &[u8; 32768],
+    k: usize,
+) -> u8
+    requires { ⌜ GridOf (now s) (now counts) (now weights) links × (k < 32768) × Holds k (digitEntry (now s)) (now digits) ⌝ }
+    ensures { λ r. ⌜ r ≡ digitEntry (now (s .entry)) k ⌝ }
+{
+    let l = k % 8;
+    if links <= l {
+        return 0;
+    }
+    let weight = weights[l];
+    if k / 8 < weight {
+        return 0;
+    }
+    let round = weight * counts[l];
+    if k / 8 < round {
+        return digits[k - 8 * weight] + 1;
+    }
+    digits[k - 8 * round]
+}
+
+pub fn digits_of(
+    s: &[u8],
+    counts: &[usize; 8],
+    weights: &[usize; 8],
+    links: usize,
+    cells: usize,
+) -> [u8; 32768]
+    requires { ⌜ GridOf (now s) (now counts) (now weights) links × (cells ≡ cellsOf (now s)) ⌝ }
+    ensures { λ r. ⌜ DigitsOf (now (s .entry)) r ⌝ }
+{
+    let mut digits = [0u8; 32768];
+    for k in 0..8 * cells {
+        digits[k] = digit_at(s, counts, weights, links, &digits, k);
+    }
+    digits
+}

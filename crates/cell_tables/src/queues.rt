@@ -1,0 +1,56 @@
+// The cell that holds given queues, each at most cap, over a scale.
+ghost use mathlib.Core.Path.{_≡_};
+ghost use Prim.Native.Nat.{_+_, _*_, _-_, _<_, _≤_};
+ghost use lib.ListN.{length, getD};
+ghost use lib.Dec.{ltb};
+ghost use Rattle.certificate.specs.Loops.{find};
+ghost use Rattle.certificate.specs.Layout.{linksOf, countAt, cutAt, cellsOf};
+ghost use Rattle.certificate.specs.Facts.{Readable};
+ghost use Rattle.grid.specs.Cells.{cellAt};
+ghost use Rattle.cell_tables.specs.Tables.{PlacesOf, QueuesFit};
+use box_records::grids;
+
+fn wide(x: u32) -> usize
+    ensures { λ r. ⌜ r ≡ x ⌝ }
+{
+    x as usize
+}
+
+// The interval that holds x over scale, of the link whose grid record starts at o: the first whose upper edge is above x, else the last.
+fn interval_at(s: &[u8], o: usize, scale: usize, x: usize) -> usize
+    requires { ⌜ (o ≤ 100000) × (scale ≤ 100000) ⌝ }
+    ensures { λ r. ⌜ r ≡ find (countAt (now (s .entry)) o - 1) (λ i. ltb x (scale * cutAt (now (s .entry)) o i)) ⌝ }
+{
+    let count = grids::count_at(s, o);
+    let mut i = 0;
+    while i + 1 < count {
+        if x < scale * grids::cut_at(s, o, i) {
+            return i;
+        }
+        i += 1;
+    }
+    i
+}
+
+// The number of the links so far with one link more, which counts fastest.
+fn with_link(cell: usize, count: usize, i: usize) -> usize
+    requires { ⌜ cell * count + i ≤ 4096 ⌝ }
+    ensures { λ r. ⌜ r ≡ cell * count + i ⌝ }
+{
+    i + cell * count
+}
+
+// The number of the cell, the last link fastest.
+pub fn cell_at(s: &[u8], places: &[usize; 8], links: usize, queues: &[u32], scale: u32) -> usize
+    requires { ⌜ Readable (now s) × PlacesOf (now s) (now places) × (links ≡ linksOf (now s)) × (length (now queues) ≡ links) × (scale ≤ 100000) × QueuesFit (now s) scale (now queues) ⌝ }
+    ensures { λ r. ⌜ (r ≡ cellAt (now (s .entry)) scale (λ l. getD (now (queues .entry)) l 0)) × (r < cellsOf (now (s .entry))) ⌝ }
+{
+    let unit = wide(scale);
+    let mut cell = 0;
+    for l in 0..links {
+        let o = places[l];
+        let x = wide(queues[l]);
+        cell = with_link(cell, grids::count_at(s, o), interval_at(s, o, unit, x));
+    }
+    cell
+}

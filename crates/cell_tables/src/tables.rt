@@ -1,0 +1,61 @@
+// The edges of every link's intervals, and how many there are. `o` and `places` are where the grid records start.
+ghost use mathlib.Core.Path.{_≡_};
+ghost use Prim.Native.Nat.{_<_, _≤_};
+ghost use Rattle.certificate.specs.Layout.{linksOf, gridAt, cellsOf};
+ghost use Rattle.certificate.specs.Facts.{Readable};
+ghost use Rattle.cell_tables.specs.Tables.{PlacesOf, edgeOf, EdgesOf, CountsOf, WeightsOf};
+use box_records::grids;
+use road_records::links as link_records;
+
+// Edge i of link l: 0, then the cuts, then cap.
+fn edge_at(s: &[u8], o: usize, l: usize, i: usize) -> usize
+    requires { ⌜ (o ≤ 100000) × (o ≡ gridAt (now s) l) × (l < 8) × (i < 16) ⌝ }
+    ensures { λ r. ⌜ r ≡ edgeOf (now (s .entry)) l i ⌝ }
+{
+    if i == 0 {
+        return 0;
+    }
+    if i < grids::count_at(s, o) {
+        return grids::cut_at(s, o, i - 1);
+    }
+    link_records::cap_of(s, l)
+}
+
+// Sixteen edges a link.
+pub fn edges_of(s: &[u8], places: &[usize; 8], links: usize) -> [usize; 128]
+    requires { ⌜ Readable (now s) × PlacesOf (now s) (now places) × (links ≡ linksOf (now s)) ⌝ }
+    ensures { λ r. ⌜ EdgesOf (now (s .entry)) r ⌝ }
+{
+    let mut edges = [0; 128];
+    for k in 0..16 * links {
+        let l = k / 16;
+        edges[k] = edge_at(s, places[l], l, k % 16);
+    }
+    edges
+}
+
+// How many intervals each link has.
+pub fn counts_of(s: &[u8], places: &[usize; 8], links: usize) -> [usize; 8]
+    requires { ⌜ Readable (now s) × PlacesOf (now s) (now places) × (links ≡ linksOf (now s)) ⌝ }
+    ensures { λ r. ⌜ CountsOf (now (s .entry)) r ⌝ }
+{
+    let mut counts = [1; 8];
+    for l in 0..links {
+        counts[l] = grids::count_at(s, places[l]);
+    }
+    counts
+}
+
+// How many cells one interval of each link spans.
+pub fn weights_of(s: &[u8], counts: &[usize; 8], links: usize, cells: usize) -> [usize; 8]
+    requires { ⌜ Readable (now s) × CountsOf (now s) (now counts) × (links ≡ linksOf (now s)) × (cells ≡ cellsOf (now s)) ⌝ }
+    ensures { λ r. ⌜ WeightsOf (now (s .entry)) r ⌝ }
+{
+    let mut weights = [1; 8];
+    let mut left = cells;
+    for l in 0..links {
+        left = left / counts[l];
+        weights[l] = left;
+    }
+    weights
+}

@@ -1,0 +1,86 @@
+-- The record of an entry as reading tests it, and the order of the entries as reading carries it from one to the next. Assumes nothing.
+use Prim.Native.Nat.{ℕ, zero, suc, _+_, _*_, _-_, _%_, _≤_, _<_}
+use mathlib.Core.Bool.{Bool, true, false, _&&_, _||_}
+use mathlib.Core.List.{List}
+use mathlib.Core.Path.{_≡_, refl, sym, _∙_}
+use native.Mathlib.Omega.{arith}
+use borrow.Author.Tests.{ltb-true, ltb-false, eqb-true, eqb-false, lt-ltb, le-ltb, le-leb, lt-leb}
+use lib.Dec.{ltb, leb, eqb}
+use lib.ListN.{length}
+use Rattle.certificate.specs.declared.Report.{Report}
+use Rattle.certificate.specs.Checks.{refusal, fine, need, orElse, marked, opened}
+use Rattle.certificate.specs.Layout.{entrySize, entryAt, cellOf, modeOf}
+use Rattle.certificate.specs.Records.{pairBelow, entryAscends, entryOk, entryFault}
+use Rattle.entry_records.specs.Keys.{IsKey, KeyBefore}
+use Rattle.certificate.proofs.Tests.{and-both, need-pass, or-next}
+use Rattle.certificate.proofs.Says.{opened-says, opened-fine}
+use Rattle.certificate.proofs.Records.{entry-says}
+use Rattle.octets.proofs.Cases.{first}
+
+-- two pairs as numbers compare as the pairs do
+pair-key : (a b c d : ℕ) → b < 256 → d < 256 → leb (a * 256 + b + 1) (c * 256 + d) ≡ pairBelow a b c d
+unfolding pairBelow
+pair-key a b c d p q = go (ltb a c) refl (eqb a c) refl (ltb b d) refl
+  where
+    go : (x : Bool) → ltb a c ≡ x → (y : Bool) → eqb a c ≡ y → (z : Bool) → ltb b d ≡ z → leb (a * 256 + b + 1) (c * 256 + d) ≡ (x || (y && z))
+    go true e y f z g = let h = ltb-true a c e in le-leb (a * 256 + b + 1) (c * 256 + d) (omega arith)
+    go false e true f true g = let h = eqb-true a c f in let k = ltb-true b d g in le-leb (a * 256 + b + 1) (c * 256 + d) (omega arith)
+    go false e true f false g = let h = eqb-true a c f in let k = ltb-false b d g in lt-leb (a * 256 + b + 1) (c * 256 + d) (omega arith)
+    go false e false f z g = let h = ltb-false a c e in let k = eqb-false a c f in lt-leb (a * 256 + b + 1) (c * 256 + d) (omega arith)
+
+module _ (s : List ℕ) where
+  -- the tests of an entry by its key
+  pub key-ascends : (e : ℕ) {least key : ℕ} → IsKey s e key → KeyBefore s e least → leb least key ≡ entryAscends s e
+  unfolding entryAscends
+  key-ascends zero {least} {key} K B = rw (B .none refl) (le-leb 0 key (omega arith))
+  key-ascends (suc e) {least} {key} K B =
+      let n : suc e - 1 ≡ e = omega arith in
+      let last : IsKey s e (least - 1) = rw n at (B .after (omega arith)) in
+      let above : least ≡ cellOf s e * 256 + modeOf s e + 1 = omega (arith, B .some (omega arith), last .is) in
+      rw (above, K .is) (pair-key (cellOf s e) (modeOf s e) (cellOf s (suc e)) (modeOf s (suc e)) (last .mode-most) (K .mode-most))
+
+  pub key-mode : (e : ℕ) {key : ℕ} → IsKey s e key → key % 256 ≡ modeOf s e
+  key-mode e K = omega (arith, K .is, K .mode-most)
+
+  pub key-cell : (e cells : ℕ) {key : ℕ} → IsKey s e key → ltb key (cells * 256) ≡ ltb (cellOf s e) cells
+  key-cell e cells {key} K = go (ltb (cellOf s e) cells) refl
+    where
+      go : (b : Bool) → ltb (cellOf s e) cells ≡ b → ltb key (cells * 256) ≡ b
+      go true p = let h = ltb-true (cellOf s e) cells p in lt-ltb key (cells * 256) (omega (arith, K .is, K .mode-most))
+      go false p = let h = ltb-false (cellOf s e) cells p in le-ltb key (cells * 256) (omega (arith, K .is))
+
+  pub key-none : KeyBefore s 0 0
+  key-none = record { none = λ e. refl; some = λ lt. absurd (omega arith); after = λ lt. absurd (omega arith) }
+
+  pub key-next : (e : ℕ) {key : ℕ} → IsKey s e key → KeyBefore s (e + 1) (key + 1)
+  key-next e {key} K =
+      let n : e + 1 - 1 ≡ e = omega arith in
+      let m : key + 1 - 1 ≡ key = omega arith in
+      record { none = λ z. absurd (omega arith); some = λ lt. omega arith; after = λ lt. rw (n, m) K }
+
+  -- the record of an entry: f is what its opening answers
+  module _ (e : ℕ) {o : ℕ} (here : o ≡ entryAt s e) {f : Report} (opening : f ≡ opened s o 69 78 entrySize) where
+    pub entry-unopened : (f .number ≡ 0 → ⊥) → f ≡ entryFault s e
+    unfolding entryFault
+    entry-unopened bad = first f _ _ (opening ∙ rw here) bad
+
+    pub entry-whole : f .number ≡ 0 → o + entrySize ≤ length s
+    entry-whole z = opened-says s o 69 78 entrySize refl .0 (rw (← opening) z) .0
+
+    pub entry-result : {ok : Bool} {r : Report} → ok ≡ entryOk s e → r ≡ orElse f (need ok (refusal 9 o) fine) → r ≡ entryFault s e
+    unfolding entryFault
+    entry-result p q = q ∙ rw (opening, p, here)
+
+  -- an entry that is there whole, with its mark, and passes its tests
+  pub entry-fine : (e : ℕ) {o : ℕ} {mark ok : Bool} → o ≡ entryAt s e → o + entrySize ≤ length s → mark ≡ marked s o 69 78 → ok ≡ entryOk s e → (mark && ok) ≡ true → fine ≡ entryFault s e
+  unfolding entryFault
+  entry-fine e {o} {mark} {ok} here whole p q holds =
+      let b = and-both mark ok holds in
+      let m : marked s o 69 78 ≡ true = sym p ∙ b .0 in
+      let k : entryOk s e ≡ true = sym q ∙ b .1 in
+      let opening : opened s o 69 78 entrySize ≡ fine = opened-fine s o 69 78 entrySize (omega arith) whole m in
+      sym (rw (← here, opening, need-pass (entryOk s e) (refusal 9 o) fine k, or-next fine fine refl))
+
+  -- an entry that passes is there whole
+  pub entry-within : (e : ℕ) {f : Report} → f ≡ entryFault s e → f .number ≡ 0 → entryAt s e + entrySize ≤ length s
+  entry-within e p z = entry-says s e .0 (rw (← p) z) .0

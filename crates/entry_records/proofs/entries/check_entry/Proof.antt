@@ -1,0 +1,34 @@
+-- `entry_records::entries::check_entry` meets its contract. Assumes nothing.
+use Rattle.entry_records.proofs.EntryPairs.{entry-unopened, entry-whole, entry-result}
+use borrow.Author.Needs.{needs}
+use Rattle.entry_records.proofs.entries.check_entry.Statement.{statement}
+use Rattle.entry_records.proofs.entries.check_entry.Tie as tie
+
+check-opened-requires : tie.Need-check-opened-requires
+check-opened-requires c κs = search needs
+
+returns : tie.Need-returns
+returns c = search entry-unopened
+
+key-at-requires : tie.Need-key-at-requires
+key-at-requires c κs = (search needs, search needs, search entry-whole)
+
+entry-ok-requires : tie.Need-entry-ok-requires
+entry-ok-requires c κs = (search needs, search needs, search entry-whole, search needs, search needs, search needs, search needs)
+
+record-result-requires : tie.Need-record-result-requires
+record-result-requires c κs = search needs
+
+returns-2 : tie.Need-returns-2
+returns-2 c = search entry-result
+
+pub check-entry-spec : {M : Type 1} → statement M
+check-entry-spec =
+    tie.close
+    (tie.spec
+    check-opened-requires
+    returns
+    key-at-requires
+    entry-ok-requires
+    record-result-requires
+    returns-2)

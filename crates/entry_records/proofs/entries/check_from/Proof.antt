@@ -1,0 +1,79 @@
+-- `entry_records::entries::check_from` meets its contract. Assumes nothing.
+use Prim.Native.Nat.{_-_}
+use mathlib.Core.Path.{_≡_, _∙_}
+use native.Mathlib.Omega.{arith}
+use borrow.Author.Needs.{needs}
+use Rattle.certificate.specs.Checks.{firstFrom}
+use Rattle.certificate.specs.Records.{entryFault}
+use Rattle.entry_records.specs.Keys.{KeyBefore}
+use Rattle.octets.proofs.Cases.{go-on, stop, end}
+use Rattle.entry_records.proofs.EntryPairs.{key-next, entry-within}
+use Rattle.entry_records.proofs.entries.check_from.Statement.{statement}
+use Rattle.entry_records.proofs.entries.check_from.Tie as tie
+
+abbrev Inv-loop : tie.InvT-loop
+Inv-loop s start counts entries from least above₀ e₀ above e = (firstFrom entries (entryFault s) e ≡ firstFrom entries (entryFault s) from) × KeyBefore s e above
+
+abbrev μ-loop : tie.MeasureT-loop
+μ-loop s start counts entries from least above₀ e₀ above e = entries - e
+
+loop-holds : tie.Need-loop-holds Inv-loop μ-loop
+loop-holds c = search needs
+
+mul-o : tie.Need-mul-o Inv-loop μ-loop
+mul-o c = search needs
+
+add-o : tie.Need-add-o Inv-loop μ-loop
+add-o c = search needs
+
+check-entry-requires : tie.Need-check-entry-requires Inv-loop μ-loop
+check-entry-requires c κs = search needs
+
+returns : tie.Need-returns Inv-loop μ-loop
+returns c = search stop
+
+key-at-requires : tie.Need-key-at-requires Inv-loop μ-loop
+key-at-requires c κs =
+    let turn = c .before .before in
+    let whole = entry-within _ (turn .before .before .loop .e) (turn .check-entry .ensures) (c .if1 .left) in
+    let given = turn .before .before .before .before .pre in
+    omega (arith, given .0, given .1, given .2, turn .before .loop-test .taken)
+
+add-above : tie.Need-add-above Inv-loop μ-loop
+add-above c = omega (arith, c .key-at .ensures .most)
+
+add-e : tie.Need-add-e Inv-loop μ-loop
+add-e c = search needs
+
+loop-less : tie.Need-loop-less Inv-loop μ-loop
+loop-less c = search needs
+
+loop-again : tie.Need-loop-again Inv-loop μ-loop
+loop-again c =
+    let turn = c .before .before .before in
+    (go-on _ _ _ _ _ (turn .before .loop-test .taken) (turn .check-entry .ensures) (c .before .if1 .left) (turn .before .before .loop .inv .0), key-next _ _ (c .key-at .ensures))
+
+accept-requires : tie.Need-accept-requires Inv-loop μ-loop
+accept-requires c κs = search needs
+
+returns-2 : tie.Need-returns-2 Inv-loop μ-loop
+returns-2 c = search end
+
+pub check-from-spec : {M : Type 1} → statement M
+check-from-spec =
+    tie.close
+    (tie.spec
+    Inv-loop
+    μ-loop
+    loop-holds
+    mul-o
+    add-o
+    check-entry-requires
+    returns
+    key-at-requires
+    add-above
+    add-e
+    loop-less
+    loop-again
+    accept-requires
+    returns-2)

@@ -1,0 +1,40 @@
+-- `entry_records::entries::entry_ok` meets its contract. Assumes nothing.
+use Rattle.certificate.specs.Octets.{_also_}
+use Rattle.certificate.specs.Records.{entryOk}
+use Rattle.entry_records.proofs.EntryPairs.{key-ascends, key-mode, key-cell}
+use borrow.Author.Needs.{needs}
+use Rattle.entry_records.proofs.entries.entry_ok.Statement.{statement}
+use Rattle.entry_records.proofs.entries.entry_ok.Tie as tie
+
+mul-result : tie.Need-mul-result
+mul-result c = search needs
+
+add-byte-within : tie.Need-add-byte-within
+add-byte-within c = search needs
+
+byte-within-requires : tie.Need-byte-within-requires
+byte-within-requires c κs = search needs
+
+add-byte-within-2 : tie.Need-add-byte-within-2
+add-byte-within-2 c = search needs
+
+byte-within-requires-2 : tie.Need-byte-within-requires-2
+byte-within-requires-2 c κs = search needs
+
+returns : tie.Need-returns
+unfolding entryOk _also_
+returns c =
+    let start = c .before .before .before .before .before .before .before in
+    let key = start .pre .5 in
+    rw (key-ascends _ _ key (start .pre .6), key-mode _ _ key, key-cell _ _ (start .args .counts .cells) key, c .before .before .before .byte-within .ensures .0, c .before .byte-within2 .ensures .0, start .pre .1, start .pre .4 .signals-are, start .pre .4 .modes-are, start .pre .4 .cells-are)
+
+pub entry-ok-spec : {M : Type 1} → statement M
+entry-ok-spec =
+    tie.close
+    (tie.spec
+    mul-result
+    add-byte-within
+    byte-within-requires
+    add-byte-within-2
+    byte-within-requires-2
+    returns)

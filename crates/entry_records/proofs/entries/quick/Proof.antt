@@ -1,0 +1,47 @@
+-- `entry_records::entries::quick` meets its contract. Assumes nothing.
+use mathlib.Core.Path.{refl}
+use native.Mathlib.Omega.{arith}
+use Rattle.entry_records.proofs.EntryPairs.{entry-fine, key-next}
+use borrow.Author.Needs.{needs}
+use Rattle.entry_records.proofs.entries.quick.Statement.{statement}
+use Rattle.entry_records.proofs.entries.quick.Tie as tie
+
+add-if1 : tie.Need-add-if1
+add-if1 c = search needs
+
+returns : tie.Need-returns
+returns c = λ some. absurd (some refl)
+
+key-at-requires : tie.Need-key-at-requires
+key-at-requires c κs = search needs
+
+marked-as-requires : tie.Need-marked-as-requires
+marked-as-requires c κs = search needs
+
+entry-ok-requires : tie.Need-entry-ok-requires
+entry-ok-requires c κs = search needs
+
+add-result : tie.Need-add-result
+add-result c = search needs
+
+returns-2 : tie.Need-returns-2
+returns-2 c = λ some.
+    let start = c .before .before .before .before .before .before in
+    let key = c .before .before .before .key-at .ensures in
+    (entry-fine _ _ (start .pre .1) (omega arith) (c .before .before .marked-as .ensures) (c .before .entry-ok .ensures) (c .if2 .taken), key-next _ _ key)
+
+returns-3 : tie.Need-returns-3
+returns-3 c = λ some. absurd (some refl)
+
+pub quick-spec : {M : Type 1} → statement M
+quick-spec =
+    tie.close
+    (tie.spec
+    add-if1
+    returns
+    key-at-requires
+    marked-as-requires
+    entry-ok-requires
+    add-result
+    returns-2
+    returns-3)

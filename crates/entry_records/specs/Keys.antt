@@ -1,0 +1,24 @@
+-- What the tests of entries go by, one entry after another.
+use Prim.Native.Nat.{ℕ, _+_, _*_, _-_, _≤_, _<_}
+use mathlib.Core.List.{List}
+use mathlib.Core.Path.{_≡_}
+use Rattle.certificate.specs.Layout.{cellOf, modeOf, signalsOf, modesOf, cellsOf}
+use Rattle.entry_records.specs.declared.entries.Counts.{Counts}
+
+-- key is the pair of entry e as one number, cell × 256 + mode
+pub record IsKey (s : List ℕ) (e key : ℕ) : Type 0 where
+  pub is : key ≡ cellOf s e * 256 + modeOf s e
+  pub mode-most : modeOf s e < 256
+  pub most : key < 16777216
+
+-- `least` is one above the key of the entry before entry e, and 0 where there is none
+pub record KeyBefore (s : List ℕ) (e least : ℕ) : Type 0 where
+  pub none : e ≡ 0 → least ≡ 0
+  pub some : 0 < e → 1 ≤ least
+  pub after : 0 < e → IsKey s (e - 1) (least - 1)
+
+-- the counts that the entries are tested against
+pub record CountsOf (s : List ℕ) (counts : Counts) : Type 0 where
+  pub signals-are : counts .signals ≡ signalsOf s
+  pub modes-are : counts .modes ≡ modesOf s
+  pub cells-are : counts .cells ≡ cellsOf s

@@ -1,0 +1,2 @@
+-- What the code that reads entries goes by.
+pub mod Keys

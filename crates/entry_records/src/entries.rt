@@ -1,0 +1,141 @@
+// EN: one record an entry of the policy, its fields and its tests. `start` is where the records of entries begin.
+ghost use mathlib.Core.Path.{_≡_};
+ghost use Prim.Native.Nat.{_+_, _<_, _≤_};
+ghost use lib.ListN.{length};
+ghost use Rattle.certificate.specs.Checks.{fine, firstFrom, firstBad};
+ghost use Rattle.certificate.specs.Layout.{entriesStart, entryAt, entrySize, cellOf, modeOf, signalOf, nextModeOf, rankOf};
+ghost use Rattle.certificate.specs.Records.{entryOk, entryFault};
+ghost use Rattle.entry_records.specs.Keys.{IsKey, KeyBefore};
+ghost use Rattle.entry_records.specs.Keys.{CountsOf};
+use certificate::Report;
+use octets::limits;
+
+// How many signals, modes and cells there are.
+pub struct Counts {
+    pub signals: usize,
+    pub modes: usize,
+    pub cells: usize,
+}
+
+pub fn cell_of(s: &[u8], start: usize, e: usize) -> usize
+    requires { ⌜ (e < 65536) × (start ≤ 100000) × (start ≡ entriesStart (now s)) ⌝ }
+    ensures { λ r. ⌜ (r ≡ cellOf (now (s .entry)) e) × (r < 65536) ⌝ }
+{
+    octets::u16_at(s, start + limits::ENTRY_SIZE * e + 2)
+}
+
+pub fn mode_of(s: &[u8], start: usize, e: usize) -> usize
+    requires { ⌜ (e < 65536) × (start ≤ 100000) × (start ≡ entriesStart (now s)) ⌝ }
+    ensures { λ r. ⌜ (r ≡ modeOf (now (s .entry)) e) × (r < 256) ⌝ }
+{
+    octets::byte_at(s, start + limits::ENTRY_SIZE * e + 4)
+}
+
+pub fn signal_of(s: &[u8], start: usize, e: usize) -> usize
+    requires { ⌜ (e < 65536) × (start ≤ 100000) × (start ≡ entriesStart (now s)) ⌝ }
+    ensures { λ r. ⌜ (r ≡ signalOf (now (s .entry)) e) × (r < 256) ⌝ }
+{
+    octets::byte_at(s, start + limits::ENTRY_SIZE * e + 5)
+}
+
+pub fn next_mode_of(s: &[u8], start: usize, e: usize) -> usize
+    requires { ⌜ (e < 65536) × (start ≤ 100000) × (start ≡ entriesStart (now s)) ⌝ }
+    ensures { λ r. ⌜ (r ≡ nextModeOf (now (s .entry)) e) × (r < 256) ⌝ }
+{
+    octets::byte_at(s, start + limits::ENTRY_SIZE * e + 6)
+}
+
+pub fn rank_of(s: &[u8], start: usize, e: usize) -> usize
+    requires { ⌜ (e < 65536) × (start ≤ 100000) × (start ≡ entriesStart (now s)) ⌝ }
+    ensures { λ r. ⌜ (r ≡ rankOf (now (s .entry)) e) × (r < 65536) ⌝ }
+{
+    octets::u16_at(s, start + limits::ENTRY_SIZE * e + 7)
+}
+
+// The pair of the entry at o, which is there whole, as one number: cell × 256 + mode.
+fn key_at(s: &[u8], o: usize, e: usize) -> usize
+    requires { ⌜ (o ≤ 900000) × (o ≡ entryAt (now s) e) × (o + entrySize ≤ length (now s)) ⌝ }
+    ensures { λ r. ⌜ IsKey (now (s .entry)) e r ⌝ }
+{
+    octets::u16_within(s, o + 2) * 256 + octets::byte_within(s, o + 4)
+}
+
+// The tests of the entry at o, which is there whole and has that key; `least` is above the key of the entry before it.
+fn entry_ok(s: &[u8], o: usize, counts: Counts, e: usize, key: usize, least: usize) -> bool
+    requires { ⌜ (o ≤ 900000) × (o ≡ entryAt (now s) e) × (o + entrySize ≤ length (now s)) × (counts .cells ≤ 4096) × CountsOf (now s) counts × IsKey (now s) e key × KeyBefore (now s) e least ⌝ }
+    ensures { λ r. ⌜ r ≡ entryOk (now (s .entry)) e ⌝ }
+{
+    (key < counts.cells * 256)
+        & (key % 256 < counts.modes)
+        & (octets::byte_within(s, o + 5) < counts.signals)
+        & (octets::byte_within(s, o + 6) < counts.modes)
+        & (least <= key)
+}
+
+// A quick yes for the record at o: it is there whole, its mark is right, and its tests pass. One above its key then, else 0.
+fn quick(s: &[u8], o: usize, counts: Counts, e: usize, least: usize) -> usize
+    requires { ⌜ (o ≤ 900000) × (o ≡ entryAt (now s) e) × (counts .cells ≤ 4096) × CountsOf (now s) counts × KeyBefore (now s) e least ⌝ }
+    ensures { λ r. ⌜ ((r ≡ 0 → ⊥) → (fine ≡ entryFault (now (s .entry)) e) × KeyBefore (now (s .entry)) (e + 1) r) ⌝ }
+{
+    if s.len() < o + limits::ENTRY_SIZE {
+        return 0;
+    }
+    let key = key_at(s, o, e);
+    if octets::marked_as(s, o, 69, 78) & entry_ok(s, o, counts, e, key, least) {
+        return key + 1;
+    }
+    0
+}
+
+// The record at o by its tests one after another.
+fn check_entry(s: &[u8], o: usize, counts: Counts, e: usize, least: usize) -> Report
+    requires { ⌜ (o ≤ 900000) × (o ≡ entryAt (now s) e) × (counts .cells ≤ 4096) × CountsOf (now s) counts × KeyBefore (now s) e least ⌝ }
+    ensures { λ r. ⌜ r ≡ entryFault (now (s .entry)) e ⌝ }
+{
+    let opening = octets::check_opened(s, o, 69, 78, limits::ENTRY_SIZE);
+    if opening.number != 0 {
+        return opening;
+    }
+    let key = key_at(s, o, e);
+    octets::record_result(opening, entry_ok(s, o, counts, e, key, least), 9, o)
+}
+
+// The records from entry `from` on.
+fn check_from(
+    s: &[u8],
+    start: usize,
+    counts: Counts,
+    entries: usize,
+    from: usize,
+    least: usize,
+) -> Report
+    requires { ⌜ (entries < 65536) × (start ≤ 100000) × (start ≡ entriesStart (now s)) × (counts .cells ≤ 4096) × CountsOf (now s) counts × KeyBefore (now s) from least ⌝ }
+    ensures { λ r. ⌜ r ≡ firstFrom entries (entryFault (now (s .entry))) from ⌝ }
+{
+    let mut above = least;
+    for e in from..entries {
+        let o = start + limits::ENTRY_SIZE * e;
+        let f = check_entry(s, o, counts, e, above);
+        if f.number != 0 {
+            return f;
+        }
+        above = key_at(s, o, e) + 1;
+    }
+    octets::accept()
+}
+
+// The records of all entries: quickly as long as the quick test says yes, and with care from there on.
+pub fn check_entries(s: &[u8], start: usize, counts: Counts, entries: usize) -> Report
+    requires { ⌜ (entries < 65536) × (start ≤ 100000) × (start ≡ entriesStart (now s)) × (counts .cells ≤ 4096) × CountsOf (now s) counts ⌝ }
+    ensures { λ r. ⌜ r ≡ firstBad entries (entryFault (now (s .entry))) ⌝ }
+{
+    let mut least = 0;
+    for e in 0..entries {
+        let next = quick(s, start + limits::ENTRY_SIZE * e, counts, e, least);
+        if next == 0 {
+            return check_from(s, start, counts, entries, e, least);
+        }
+        least = next;
+    }
+    octets::accept()
+}

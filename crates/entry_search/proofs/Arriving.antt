@@ -1,0 +1,56 @@
+-- The tables of caps and arrivals, and the ends of an entry's image with the arrivals of a box. Assumes nothing.
+use Prim.Native.Nat.{ℕ, _+_, _*_, _/_, _%_, _≤_, _<_, min}
+use mathlib.Core.List.{List}
+use mathlib.Core.Path.{_≡_, refl, _∙_}
+use native.Mathlib.Omega.{arith}
+use lib.ListN.{getD}
+use Rattle.certificate.specs.Facts.{Readable}
+use Rattle.certificate.specs.Layout.{linksOf, boxesOf, lowOf, highOf, entriesOf, cellOf, signalOf}
+use Rattle.network.specs.Network.{networkOf, limitOf}
+use Rattle.network.specs.Laws.{Screened}
+use Rattle.images.proofs.Arriving.{end-arriving}
+use Rattle.grid.specs.Successors.{imageLow, imageHigh}
+use Rattle.cell_tables.specs.Tables.{Holds}
+use Rattle.grid.proofs.Images.{image-is-smallest}
+use Rattle.entry_search.specs.Tables.{CapsOf, ArrivalsOf, arrivalEntry, EntryEnds, EntryImage}
+
+-- a table filled entry by entry holds the arrivals of each box
+pub arrivals-filled : (s a : List ℕ) (n : ℕ) → linksOf s ≤ 8 → n ≡ 16 * boxesOf s → Holds n (arrivalEntry s) a → ArrivalsOf s a
+unfolding arrivalEntry
+arrivals-filled s a n few w h =
+    record {
+      low-is = λ b l hb hl.
+          let q : (16 * b + 2 * l) / 16 ≡ b = omega arith in
+          let p : 2 + 2 * ((16 * b + 2 * l) % 16) ≡ 2 + 4 * l = omega arith in
+          h (16 * b + 2 * l) (omega arith) ∙ rw (q, p);
+      high-is = λ b l hb hl.
+          let q : (16 * b + 1 + 2 * l) / 16 ≡ b = omega arith in
+          let p : 2 + 2 * ((16 * b + 1 + 2 * l) % 16) ≡ 4 + 4 * l = omega arith in
+          h (16 * b + 1 + 2 * l) (omega arith) ∙ rw (q, p);
+    }
+
+module _ (s : List ℕ) (b links : ℕ) (arrivals : List ℕ) (R : Readable s) (hb : b < boxesOf s) (w : links ≡ linksOf s) (A : ArrivalsOf s arrivals) where
+  -- arrivals are small
+  pub lows-small : (l : ℕ) → l < links → getD arrivals (16 * b + 2 * l) 0 ≤ 10000000000
+  lows-small l hl =
+      let inside : l < linksOf s = omega arith in
+      omega (arith, A .low-is b l hb inside, R .box b hb .low-most l inside, R .box b hb .high-most l inside)
+
+  pub highs-small : (l : ℕ) → l < links → getD arrivals (16 * b + 1 + 2 * l) 0 ≤ 10000000000
+  highs-small l hl =
+      let inside : l < linksOf s = omega arith in
+      omega (arith, A .high-is b l hb inside, R .box b hb .high-most l inside)
+
+-- the ends with the arrivals of a box are those of the image
+pub image-is : (s : List ℕ) → Screened s → (e b links : ℕ) (low high from to caps arrivals : List ℕ) → links ≡ linksOf s → CapsOf s caps → ArrivalsOf s arrivals
+    → EntryEnds s e low high → e < entriesOf s → b < boxesOf s
+    → ((l : ℕ) → l < links → getD from l 0 ≡ min (getD caps l 0) (getD low l 0 + getD arrivals (16 * b + 2 * l) 0))
+    → ((l : ℕ) → l < links → getD to l 0 ≡ min (getD caps l 0) (getD high l 0 + getD arrivals (16 * b + 1 + 2 * l) 0))
+    → EntryImage s e b from to
+unfolding imageLow imageHigh
+image-is s S e b links low high from to caps arrivals w C A E he hb lows highs =
+    record {
+      low-is = λ l hl. lows l (rw w hl) ∙ rw (C l hl, A .low-is b l hb hl) (end-arriving (networkOf s) (limitOf s (signalOf s e)) _ (lowOf s b) l _ _ (E .low-is l hl) refl);
+      high-is = λ l hl. highs l (rw w hl) ∙ rw (C l hl, A .high-is b l hb hl) (end-arriving (networkOf s) (limitOf s (signalOf s e)) _ (highOf s b) l _ _ (E .high-is l hl) refl);
+      smallest = image-is-smallest s S (signalOf s e) b (cellOf s e) (S .readable .entry e he .signal) hb;
+    }

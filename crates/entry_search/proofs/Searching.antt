@@ -1,0 +1,63 @@
+-- The nested search over boxes and cells, turn by turn, in the form in which a proof has the facts. Assumes nothing.
+use Prim.Native.Nat.{ℕ, zero, suc, _+_, _-_, _≤_, _<_}
+use mathlib.Core.List.{List}
+use mathlib.Core.Bool.{true, false}
+use mathlib.Core.Path.{_≡_, refl, sym, _∙_}
+use native.Mathlib.Omega.{arith}
+use Rattle.certificate.specs.declared.Report.{Report}
+use Rattle.certificate.specs.Checks.{fine, orElse}
+use Rattle.certificate.specs.Layout.{cellsOf, boxesOf}
+use Rattle.certificate.proofs.Tests.{or-next, or-stop}
+use Rattle.certificate.proofs.Loops.{from-turn, from-end}
+use Rattle.judging.specs.Judging.{follows, successorFault, countAfter, lookFault, cellTurn, boxTurn, accepted}
+use Rattle.entry_search.specs.Tables.{boxesFrom, cellsFrom}
+
+module _ (s : List ℕ) (e b d n : ℕ) {t : Report} where
+  -- a box is opened at its first cell, and shut after its last one
+  pub open-box : b < boxesOf s → boxesFrom s e b n ≡ t → cellsFrom s e b 0 n ≡ t
+  unfolding boxesFrom cellsFrom boxTurn
+  open-box h p = sym (from-turn (boxTurn s e) accepted (boxesOf s) b n h) ∙ p
+
+  pub shut-box : cellsOf s ≤ d → cellsFrom s e b d n ≡ t → boxesFrom s e (b + 1) n ≡ t
+  unfolding cellsFrom
+  shut-box h p = sym (from-end (cellTurn s e b) (boxesFrom s e (b + 1)) (cellsOf s) d n h) ∙ p
+
+  -- after the last box
+  pub end-search : boxesOf s ≤ b → boxesFrom s e b n ≡ t → accepted n ≡ t
+  unfolding boxesFrom
+  end-search h p = sym (from-end (boxTurn s e) accepted (boxesOf s) b n h) ∙ p
+
+  turn : d < cellsOf s → cellsFrom s e b d n ≡ t → cellTurn s e b d n (cellsFrom s e b (d + 1)) ≡ t
+  unfolding cellsFrom
+  turn h p = sym (from-turn (cellTurn s e b) (boxesFrom s e (b + 1)) (cellsOf s) d n h) ∙ p
+
+  -- a cell that does not follow is passed over
+  pass-over : d < cellsOf s → follows s e b d ≡ false → cellsFrom s e b d n ≡ t → cellsFrom s e b (d + 1) n ≡ t
+  unfolding cellTurn lookFault countAfter
+  pass-over h f p = sym (or-next fine _ refl) ∙ (rw f at (turn h p))
+
+  look : d < cellsOf s → follows s e b d ≡ true → cellsFrom s e b d n ≡ t
+      → orElse (successorFault s e d (n + 1)) (cellsFrom s e b (d + 1) (n + 1)) ≡ t
+  unfolding cellTurn lookFault countAfter
+  look h f p = rw f at (turn h p)
+
+  -- a successor that holds: the search goes on, with one more on the count
+  pub holds : d < cellsOf s → follows s e b d ≡ true → successorFault s e d (n + 1) .number ≡ 0
+      → cellsFrom s e b d n ≡ t → cellsFrom s e b (d + 1) (n + 1) ≡ t
+  holds h f z p = sym (or-next (successorFault s e d (n + 1)) _ z) ∙ look h f p
+
+  -- one that does not: its refusal, counted, is the answer
+  pub stops : d < cellsOf s → follows s e b d ≡ true → (successorFault s e d (n + 1) .number ≡ 0 → ⊥)
+      → cellsFrom s e b d n ≡ t → successorFault s e d (n + 1) ≡ t
+  stops h f z p = sym (or-stop (successorFault s e d (n + 1)) _ z) ∙ look h f p
+
+-- a stretch of cells of which none follows is passed over
+pub skip : (s : List ℕ) (e b d n r : ℕ) {t : Report} → d ≤ r → r ≤ cellsOf s
+    → ((c : ℕ) → d ≤ c → c < r → follows s e b c ≡ false) → cellsFrom s e b d n ≡ t → cellsFrom s e b r n ≡ t
+skip s e b d n r {t} le most none p = go (r - d) d (omega arith) (omega arith) none p
+  where
+    go : (k c : ℕ) → r ≡ c + k → d ≤ c → ((i : ℕ) → c ≤ i → i < r → follows s e b i ≡ false) → cellsFrom s e b c n ≡ t → cellsFrom s e b r n ≡ t
+    go zero c q ge h w = let same : c ≡ r = omega arith in rw same at w
+    go (suc k) c q ge h w =
+        go k (c + 1) (omega arith) (omega arith) (λ i a l. h i (omega arith) l)
+        (pass-over s e b c n (omega arith) (h c (omega arith) (omega arith)) w)

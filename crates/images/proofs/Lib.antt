@@ -1,0 +1,9 @@
+pub mod Arriving
+pub mod Caps
+pub mod Finding
+pub mod Least
+pub mod Corners
+pub mod Outward
+pub mod PassingOn
+pub mod TwoLeast
+pub mod Sides

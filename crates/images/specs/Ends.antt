@@ -1,0 +1,76 @@
+-- What the code is told of a certificate's network, as plain numbers and arrays, and what these are.
+use Prim.Native.Nat.{ℕ, _+_, _*_, _-_, _≤_, _<_, min}
+use mathlib.Core.List.{List}
+use mathlib.Core.Path.{_≡_}
+use lib.Dec.{leb, eqb}
+use lib.ListN.{length, getD}
+use Rattle.certificate.specs.Octets.{bitOf}
+use Rattle.certificate.specs.Loops.{pick, find, sumTo}
+use Rattle.certificate.specs.Layout.{linksOf, turnsOf, capOf, flowOf, fromOf, toOf, shareOf, pullOf}
+use Rattle.network.specs.Network.{Network, networkOf}
+use Rattle.network.specs.Flow.{leastTo, supply, sent, gross}
+use Rattle.network.specs.Image.{lowCorner, highCorner}
+use Rattle.screening.specs.Roads.{into}
+
+-- element k of an array
+abbrev pub at : List ℕ → ℕ → ℕ
+at xs k = getD xs k 0
+
+-- first has, of each link j, where its turns begin: the first turn from j or a later link. Pairs ascend, so a link's turns stand together
+pub record FirstTurns (s first : List ℕ) : Type 0 where
+  pub begins : (j : ℕ) → j < 9 → at first j ≡ find (turnsOf s) (λ t. leb j (fromOf s t))
+
+-- no queue of x exceeds its link's cap
+pub record WithinCaps (s x : List ℕ) : Type 0 where
+  pub fits : (l : ℕ) → l < linksOf s → at x l ≤ capOf s l
+
+-- what the to link of turn t has room for where the queues are x: pull × (cap − queue), in hundredths
+abbrev pub supplyAt : List ℕ → (ℕ → ℕ) → ℕ → ℕ
+supplyAt s x t = pullOf s t * (capOf s (toOf s t) - x (toOf s t))
+
+-- rooms has the supply of each turn from `from` up to `end` where the queues are x
+pub record Supplies (s : List ℕ) (x : ℕ → ℕ) (from end : ℕ) (rooms : List ℕ) : Type 0 where
+  pub long : length rooms ≡ 32
+  pub room : (t : ℕ) → from ≤ t → t < end → at rooms t ≡ supplyAt s x t
+
+-- least is the least of the numbers of f from `from` up to `end`, or a million, which no link sends more than; and next the least without it,
+-- so that of each of these numbers the least of the others is known
+pub record TwoLeast (f : ℕ → ℕ) (from end least next : ℕ) : Type 0 where
+  pub least-is : least ≡ leastTo end (leb from) f 1000000
+  pub ordered : (least ≤ next) × (next ≤ 1000000)
+  pub others-is : (t : ℕ) → from ≤ t → t < end → pick (eqb (f t) least) next least ≡ leastTo end (leb from) (λ u. pick (eqb u t) 1000000 (f u)) 1000000
+
+-- the most that link l may send under a signal's byte of green links
+abbrev pub limitBy : List ℕ → ℕ → ℕ → ℕ
+limitBy s byte l = pick (bitOf byte l) (flowOf s l) 0
+
+-- what the link of turns from .. end sends by these supplies, at most `most`, with turn t's supply of near and the others' of far
+abbrev pub sentBy : (ℕ → ℕ) → (ℕ → ℕ) → ℕ → ℕ → ℕ → ℕ → ℕ
+sentBy near far from end most t = leastTo end (leb from) (λ u. pick (eqb u t) (near u) (far u)) most
+
+-- after is before with what turns from .. end carry, f t each, added to the links that they lead to, and `less` taken from link l
+pub record PassedOn (s : List ℕ) (f : ℕ → ℕ) (from end l less : ℕ) (before after : List ℕ) : Type 0 where
+  pub long : linksOf s ≤ length after
+  pub adds : (k : ℕ) → k < linksOf s → at after k + pick (eqb k l) less 0 + sumTo from (into (toOf s) f k) ≡ at before k + sumTo end (into (toOf s) f k)
+  pub most : (k : ℕ) → k < linksOf s → at after k ≤ 100000000 + end * 255000000
+
+-- what the from link of turn t sends where own queues stand on it and on the link that t leads into, and others on the rest
+abbrev pub pushed : Network → (ℕ → ℕ) → (ℕ → ℕ) → (ℕ → ℕ) → ℕ → ℕ
+pushed N limit own other t =
+    leastTo (N .turns) (λ u. eqb (N .from u) (N .from t)) (λ u. pick (eqb u t) (supply N limit 1 own u) (supply N limit 1 other u))
+    (min (100 * own (N .from t)) (100 * (1 * limit (N .from t))))
+
+-- side has, of each link, its next queue before arrivals at the corner of own and other queues, as far as the links before l send, in ten thousandths of a vehicle
+pub record Side (s : List ℕ) (limit own other : ℕ → ℕ) (first : List ℕ) (l : ℕ) (side : List ℕ) : Type 0 where
+  pub long : linksOf s ≤ length side
+  pub is : (k : ℕ) → k < linksOf s
+      → at side k + pick (leb l k) 0 (100 * sent (networkOf s) limit 1 own k)
+      ≡ 10000 * own k + sumTo (at first l) (into (toOf s) (λ t. shareOf s t * pushed (networkOf s) limit own other t) k)
+  pub most : (k : ℕ) → k < linksOf s → at side k ≤ 100000000 + at first l * 255000000
+
+-- low and high have the ends of the image of the closed box lower .. upper before arrivals
+pub record EndsBefore (s : List ℕ) (limit lower upper : ℕ → ℕ) (low high : List ℕ) : Type 0 where
+  pub low-is : (l : ℕ) → l < linksOf s → at low l ≡ gross (networkOf s) limit 1 (lowCorner (networkOf s) l lower upper) (λ _. 0) l
+  pub high-is : (l : ℕ) → l < linksOf s → at high l ≡ gross (networkOf s) limit 1 (highCorner (networkOf s) l lower upper) (λ _. 0) l
+  pub low-most : (l : ℕ) → l < linksOf s → at low l ≤ 10000000000
+  pub high-most : (l : ℕ) → l < linksOf s → at high l ≤ 10000000000

@@ -1,0 +1,2 @@
+-- What the code of the image goes by.
+pub mod Ends

@@ -1,0 +1,159 @@
+// The ends of the image of a closed box of queues, before arrivals and with them, in ten thousandths of a vehicle.
+// `start` is where the records of turns begin, `first` has where each link's turns begin, `byte` a signal's green links.
+ghost use mathlib.Core.Path.{_≡_};
+ghost use Prim.Native.Nat.{ℕ, _+_, _*_, _<_, _≤_, min};
+ghost use lib.Dec.{eqb};
+ghost use lib.ListN.{length};
+ghost use Rattle.certificate.specs.Loops.{pick};
+ghost use Rattle.certificate.specs.Layout.{linksOf, turnsOf, shareOf};
+ghost use Rattle.screening.specs.Roads.{Roads};
+ghost use Rattle.images.specs.Ends.{at, FirstTurns, WithinCaps, limitBy, TwoLeast, sentBy, PassedOn, Side, EndsBefore};
+use crate::supply;
+use road_records::links;
+use screening::conditions;
+use turn_records::turns;
+
+pub struct Ends {
+    pub low: [usize; 8],
+    pub high: [usize; 8],
+}
+
+// Ten thousand times each queue.
+fn scale(links: usize, x: &[usize; 8], ends: &mut [usize; 8])
+    requires { ⌜ (links ≤ 8) × ((l : ℕ) → l < links → at (now x) l ≤ 10000) × (length (now ends) ≡ 8) ⌝ }
+    ensures { λ _. ⌜ (length (now (ends .exit)) ≡ 8) × ((l : ℕ) → l < links → at (now (ends .exit)) l ≡ 10000 * at (now (x .entry)) l) ⌝ }
+{
+    for l in 0..links {
+        ends[l] = 10000 * x[l];
+    }
+}
+
+// What turn t lets pass: the least of its own supply of `near`, the others' of `far` and the most that its link may send.
+fn sent_by(near: &[usize; 32], far: &[usize; 32], two: supply::Two, most: usize, t: usize) -> usize
+    requires { ⌜ t < 32 ⌝ }
+    ensures { λ r. ⌜ (r ≡ min (min (at (now (near .entry)) t) (pick (eqb (at (now (far .entry)) t) (two .least)) (two .next) (two .least))) most) × (r ≤ most) ⌝ }
+{
+    supply::smaller(
+        supply::smaller(near[t], supply::others_of(two, far[t])),
+        most,
+    )
+}
+
+// A link that sends: its number, where its turns begin and end, and the most that it may send, in hundredths.
+struct Sender {
+    link: usize,
+    from: usize,
+    end: usize,
+    flow: usize,
+}
+
+// A link sends: its own end loses what it sends, and each of its turns adds its share of what it lets pass to its to link.
+// `own` has the two least supplies of `near`, `two` those of `far`.
+fn pass_on(
+    s: &[u8],
+    start: usize,
+    sender: Sender,
+    x: &[usize; 8],
+    near: &[usize; 32],
+    own: supply::Two,
+    far: &[usize; 32],
+    two: supply::Two,
+    ends: &mut [usize; 8],
+)
+    requires { ⌜ Roads (now s) start (turnsOf (now s)) (linksOf (now s)) × (sender .from ≤ sender .end) × (sender .end ≤ turnsOf (now s)) × (sender .link < linksOf (now s)) × (at (now x) (sender .link) ≤ 10000) × (10000 * at (now x) (sender .link) ≤ at (now ends) (sender .link)) × TwoLeast (at (now far)) (sender .from) (sender .end) (two .least) (two .next) × (linksOf (now s) ≤ length (now ends)) × ((k : ℕ) → k < linksOf (now s) → at (now ends) k ≤ 100000000 + sender .from * 255000000) ⌝ }
+    ensures { λ _. ⌜ PassedOn (now (s .entry)) (λ t. shareOf (now (s .entry)) t * sentBy (at (now (near .entry))) (at (now (far .entry))) (sender .from) (sender .end) (min (100 * at (now (x .entry)) (sender .link)) (sender .flow)) t) (sender .from) (sender .end) (sender .link) (100 * min (own .least) (min (100 * at (now (x .entry)) (sender .link)) (sender .flow))) (now (ends .entry)) (now (ends .exit)) ⌝ }
+{
+    let l = sender.link;
+    let from = sender.from;
+    let end = sender.end;
+    let most = supply::smaller(100 * x[l], sender.flow);
+    ends[l] = ends[l] - 100 * supply::smaller(own.least, most);
+    for t in from..end {
+        let to = turns::to_within(s, start, t);
+        let more = turns::share_within(s, start, t) * sent_by(near, far, two, most, t);
+        ends[to] = ends[to] + more;
+    }
+}
+
+// The ends of the low and the high side once link l has sent too: nothing where it is red.
+// `lows` and `highs` are lent for the supplies of its turns at the lower and the upper queues.
+fn send(
+    s: &[u8],
+    start: usize,
+    byte: usize,
+    first: &[usize; 9],
+    lower: &[usize; 8],
+    upper: &[usize; 8],
+    l: usize,
+    lows: &mut [usize; 32],
+    highs: &mut [usize; 32],
+    low: &mut [usize; 8],
+    high: &mut [usize; 8],
+)
+    requires { ⌜ Roads (now s) start (turnsOf (now s)) (linksOf (now s)) × FirstTurns (now s) (now first) × WithinCaps (now s) (now lower) × WithinCaps (now s) (now upper) × (l < linksOf (now s)) × Side (now s) (limitBy (now s) byte) (at (now lower)) (at (now upper)) (now first) l (now low) × Side (now s) (limitBy (now s) byte) (at (now upper)) (at (now lower)) (now first) l (now high) × (length (now lows) ≡ 32) × (length (now highs) ≡ 32) ⌝ }
+    ensures { λ _. ⌜ Side (now (s .entry)) (limitBy (now (s .entry)) byte) (at (now (lower .entry))) (at (now (upper .entry))) (now (first .entry)) (l + 1) (now (low .exit)) × Side (now (s .entry)) (limitBy (now (s .entry)) byte) (at (now (upper .entry))) (at (now (lower .entry))) (now (first .entry)) (l + 1) (now (high .exit)) × (length (now (lows .exit)) ≡ 32) × (length (now (highs .exit)) ≡ 32) ⌝ }
+{
+    if !conditions::is_green(byte, l) {
+        return;
+    }
+    let from = first[l];
+    let end = first[l + 1];
+    let least = supply::supplies(s, start, from, end, lower, upper, lows, highs);
+    let lowest = least.lower;
+    let highest = least.upper;
+    let flow = 100 * links::flow_within(s, l);
+    let sender = Sender {
+        link: l,
+        from,
+        end,
+        flow,
+    };
+    pass_on(s, start, sender, lower, lows, lowest, highs, highest, low);
+    pass_on(s, start, sender, upper, highs, highest, lows, lowest, high);
+}
+
+// The ends of the image of the closed box lower .. upper, before arrivals.
+pub fn ends_of(
+    s: &[u8],
+    start: usize,
+    turns: usize,
+    links: usize,
+    byte: usize,
+    first: &[usize; 9],
+    lower: &[usize; 8],
+    upper: &[usize; 8],
+) -> Ends
+    requires { ⌜ Roads (now s) start turns links × FirstTurns (now s) (now first) × WithinCaps (now s) (now lower) × WithinCaps (now s) (now upper) ⌝ }
+    ensures { λ r. ⌜ EndsBefore (now (s .entry)) (limitBy (now (s .entry)) byte) (at (now (lower .entry))) (at (now (upper .entry))) (r .low) (r .high) ⌝ }
+{
+    let mut lows = [0usize; 32];
+    let mut highs = [0usize; 32];
+    let mut low = [0usize; 8];
+    let mut high = [0usize; 8];
+    scale(links, lower, &mut low);
+    scale(links, upper, &mut high);
+    for l in 0..links {
+        send(
+            s,
+            start,
+            byte,
+            first,
+            lower,
+            upper,
+            l,
+            &mut lows,
+            &mut highs,
+            &mut low,
+            &mut high,
+        );
+    }
+    Ends { low, high }
+}
+
+// An end with arrivals, cut at cap; all in ten thousandths.
+pub fn end_of(cap: usize, before: usize, arrivals: usize) -> usize
+    requires { ⌜ (before ≤ 10000000000) × (arrivals ≤ 10000000000) ⌝ }
+    ensures { λ r. ⌜ r ≡ min cap (before + arrivals) ⌝ }
+{
+    supply::smaller(cap, before + arrivals)
+}

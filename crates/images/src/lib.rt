@@ -1,0 +1,3 @@
+// The image of a closed box of queues.
+pub mod ends;
+pub mod supply;

@@ -1,0 +1,3 @@
+-- The lines of a listing.
+pub mod Fields
+pub mod Lines

@@ -1,0 +1,72 @@
+// How long each part of the text is, so that a buffer's size is tested before anything is written.
+ghost use mathlib.Core.Path.{_≡_};
+ghost use Prim.Native.Nat.{_+_, _*_, _<_, _≤_};
+ghost use lib.ListN.{length};
+ghost use Rattle.certificate.specs.Octets.{byteAt};
+ghost use Rattle.certificate.specs.Layout.{entriesStart};
+ghost use Rattle.text.specs.Text.{decimal};
+ghost use Rattle.listing_lines.specs.Lines.{countsLine, entryLine, entryLines, acceptedLine, refusedLine};
+use crate::fields;
+use certificate::Report;
+
+// A word, a number, and the byte after them.
+fn field_length(word: &[u8], n: u32) -> usize
+    requires { ⌜ length (now word) ≤ 10 ⌝ }
+    ensures { λ r. ⌜ (r ≡ length (now (word .entry)) + length (decimal n) + 1) × (r ≤ 21) ⌝ }
+{
+    word.len() + text::decimal_length(n) + 1
+}
+
+// A word, the count that stands as a byte at an offset of s, and the byte after them.
+fn count_length(word: &[u8], s: &[u8], o: usize) -> usize
+    requires { ⌜ length (now word) ≤ 10 ⌝ }
+    ensures { λ r. ⌜ (r ≡ length (now (word .entry)) + length (decimal (byteAt (now (s .entry)) o)) + 1) × (r ≤ 21) ⌝ }
+{
+    field_length(word, octets::byte_at(s, o) as u32)
+}
+
+pub fn counts_length(s: &[u8]) -> usize
+    ensures { λ r. ⌜ (r ≡ length (countsLine (now (s .entry)))) × (r ≤ 126) ⌝ }
+{
+    count_length(b"links ", s, 2)
+        + count_length(b"turns ", s, 3)
+        + count_length(b"signals ", s, 4)
+        + count_length(b"modes ", s, 5)
+        + count_length(b"arrivals ", s, 6)
+        + field_length(b"entries ", fields::entries_of(s) as u32)
+}
+
+fn entry_length(s: &[u8], start: usize, e: usize) -> usize
+    requires { ⌜ (e ≤ 4096) × (start ≤ 100000) × (start ≡ entriesStart (now s)) ⌝ }
+    ensures { λ r. ⌜ (r ≡ length (entryLine (now (s .entry)) e)) × (r ≤ 55) ⌝ }
+{
+    let numbers = fields::entry_numbers(s, start, e);
+    text::numbers_length(&numbers)
+}
+
+// The lines of the entries before n.
+pub fn entries_length(s: &[u8], start: usize, n: usize) -> usize
+    requires { ⌜ (n ≤ 4096) × (start ≤ 100000) × (start ≡ entriesStart (now s)) ⌝ }
+    ensures { λ r. ⌜ (r ≡ length (entryLines (now (s .entry)) n)) × (r ≤ 55 * n) ⌝ }
+{
+    let mut total = 0;
+    let mut e = 0;
+    while e < n {
+        total += entry_length(s, start, e);
+        e += 1;
+    }
+    total
+}
+
+pub fn accepted_length(report: Report) -> usize
+    ensures { λ r. ⌜ (r ≡ length (acceptedLine report)) × (r ≤ 21) ⌝ }
+{
+    field_length(b"accepted ", report.count)
+}
+
+pub fn refused_length(report: Report) -> usize
+    ensures { λ r. ⌜ (r ≡ length (refusedLine report)) × (r ≤ 52) ⌝ }
+{
+    let numbers = [report.number as u32, report.a, report.b, report.count];
+    b"refused ".len() + text::numbers_length(&numbers)
+}

@@ -1,0 +1,75 @@
+// The lines of a listing, put into a lent buffer at a place. Each function answers the place after what it wrote.
+ghost use mathlib.Core.Path.{_≡_};
+ghost use mathlib.Core.List.{_++_};
+ghost use Prim.Native.Nat.{_<_, _≤_};
+ghost use Rattle.certificate.specs.Octets.{byteAt};
+ghost use Rattle.certificate.specs.Layout.{entriesStart};
+ghost use Rattle.text.specs.Text.{decimal, space};
+ghost use Rattle.listing_lines.specs.Lines.{countsLine, entryLine, entryLines, acceptedLine, refusedLine};
+ghost use Rattle.text.specs.Place.{Room, Put};
+use crate::fields;
+use certificate::Report;
+
+// A word, and the count that stands as a byte at an offset of s.
+fn put_count(buffer: &mut [u8], at: usize, word: &[u8], s: &[u8], o: usize) -> usize
+    requires { ⌜ Room (now buffer) at (now word ++ (decimal (byteAt (now s) o) ++ space)) ⌝ }
+    ensures { λ r. ⌜ Put (now (buffer .entry)) at (now (word .entry) ++ (decimal (byteAt (now (s .entry)) o) ++ space)) (now (buffer .exit)) r ⌝ }
+{
+    text::put_field(buffer, at, word, octets::byte_at(s, o) as u32, b' ')
+}
+
+pub fn put_counts(buffer: &mut [u8], at: usize, s: &[u8]) -> usize
+    requires { ⌜ Room (now buffer) at (countsLine (now s)) ⌝ }
+    ensures { λ r. ⌜ Put (now (buffer .entry)) at (countsLine (now (s .entry))) (now (buffer .exit)) r ⌝ }
+{
+    let turns = put_count(buffer, at, b"links ", s, 2);
+    let signals = put_count(buffer, turns, b"turns ", s, 3);
+    let modes = put_count(buffer, signals, b"signals ", s, 4);
+    let arrivals = put_count(buffer, modes, b"modes ", s, 5);
+    let entries = put_count(buffer, arrivals, b"arrivals ", s, 6);
+    text::put_field(
+        buffer,
+        entries,
+        b"entries ",
+        fields::entries_of(s) as u32,
+        b'\n',
+    )
+}
+
+fn put_entry(buffer: &mut [u8], at: usize, s: &[u8], start: usize, e: usize) -> usize
+    requires { ⌜ (e ≤ 4096) × (start ≤ 100000) × (start ≡ entriesStart (now s)) × Room (now buffer) at (entryLine (now s) e) ⌝ }
+    ensures { λ r. ⌜ Put (now (buffer .entry)) at (entryLine (now (s .entry)) e) (now (buffer .exit)) r ⌝ }
+{
+    let numbers = fields::entry_numbers(s, start, e);
+    text::put_numbers(buffer, at, &numbers)
+}
+
+// The lines of the entries before n.
+pub fn put_entries(buffer: &mut [u8], at: usize, s: &[u8], start: usize, n: usize) -> usize
+    requires { ⌜ (n ≤ 4096) × (start ≤ 100000) × (start ≡ entriesStart (now s)) × Room (now buffer) at (entryLines (now s) n) ⌝ }
+    ensures { λ r. ⌜ Put (now (buffer .entry)) at (entryLines (now (s .entry)) n) (now (buffer .exit)) r ⌝ }
+{
+    let mut next = at;
+    let mut e = 0;
+    while e < n {
+        next = put_entry(buffer, next, s, start, e);
+        e += 1;
+    }
+    next
+}
+
+pub fn put_accepted(buffer: &mut [u8], at: usize, report: Report) -> usize
+    requires { ⌜ Room (now buffer) at (acceptedLine report) ⌝ }
+    ensures { λ r. ⌜ Put (now (buffer .entry)) at (acceptedLine report) (now (buffer .exit)) r ⌝ }
+{
+    text::put_field(buffer, at, b"accepted ", report.count, b'\n')
+}
+
+pub fn put_refused(buffer: &mut [u8], at: usize, report: Report) -> usize
+    requires { ⌜ Room (now buffer) at (refusedLine report) ⌝ }
+    ensures { λ r. ⌜ Put (now (buffer .entry)) at (refusedLine report) (now (buffer .exit)) r ⌝ }
+{
+    let next = text::put_word(buffer, at, b"refused ");
+    let numbers = [report.number as u32, report.a, report.b, report.count];
+    text::put_numbers(buffer, next, &numbers)
+}

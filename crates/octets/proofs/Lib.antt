@@ -1,0 +1,4 @@
+pub mod Cases
+pub mod Copying
+pub mod FilledTables
+pub mod Fitting

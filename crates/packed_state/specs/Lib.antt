@@ -1,0 +1,3 @@
+-- The state as bytes.
+pub mod State
+pub mod Laws

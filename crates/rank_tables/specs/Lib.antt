@@ -1,0 +1,2 @@
+-- The index and the table of ranks.
+pub mod Index

@@ -1,0 +1,97 @@
+-- The stages of reading, put together: what a refusal answers, and how the stages follow one another. Assumes nothing.
+use Prim.Native.Nat.{ℕ, _+_, _*_, _≤_, _<_}
+use mathlib.Core.List.{List}
+use mathlib.Core.Path.{_≡_, refl, sym, ap, _∙_}
+use native.Mathlib.Omega.{arith}
+use Rattle.certificate.specs.declared.Report.{Report}
+use Rattle.reading.specs.declared.Reading.{Reading}
+use Rattle.certificate.specs.Checks.{orElse}
+use Rattle.certificate.specs.Layout.{turnSize, arrivalSize, linksOf, turnsOf, signalsOf, modesOf, boxesOf, entriesOf, linkAt, turnsStart, signalsStart, gridAt, arrivalsStart, entriesStart}
+use Rattle.certificate.specs.Records.{headerFault, endFault}
+use Rattle.certificate.specs.Reading.{linksFault, turnsFault, signalsFault, gridsFault, readingOf}
+use Rattle.certificate.specs.Facts.{HeaderFacts}
+use Rattle.box_records.specs.GridRecords.{GridsLaid}
+use Rattle.reading.specs.Laid.{networkFault, tailFault, backFault, LaidOut, noLayout, ReadAs}
+use Rattle.octets.proofs.Cases.{in-groups}
+use Rattle.box_records.proofs.Products.{box-offset}
+use Rattle.certificate.proofs.Offsets.{grid-end}
+use Rattle.certificate.proofs.Records.{header-says}
+
+-- what a stage refuses is the answer, with no layout
+pub refused-as : {s : List ℕ} {f fault : Report} {r : Reading} → (r .report ≡ f) × (r .layout ≡ noLayout) → (f .number ≡ 0 → ⊥) → f ≡ fault → ReadAs s fault r
+refused-as {s} {f} {fault} {r} same bad e =
+    record {
+      report-is = same .0 ∙ e;
+      laid = λ z. absurd (bad (rw (same .0) at z));
+      none = λ _. same .1;
+    }
+
+-- the same answer under another name
+pub read-as : {s : List ℕ} {fault fault' : Report} {r : Reading} → ReadAs s fault r → (r .report ≡ fault → r .report ≡ fault') → ReadAs s fault' r
+read-as R h = record { report-is = h (R .report-is); laid = R .laid; none = R .none }
+
+module _ (s : List ℕ) where
+  -- reading is HD, then the network, then all from GR on
+  pub in-stages : orElse (headerFault s) (orElse (networkFault s) (backFault s)) ≡ readingOf s
+  unfolding readingOf networkFault backFault tailFault
+  in-stages = ap (orElse (headerFault s)) (in-groups (linksFault s) _ _ ∙ ap (orElse (linksFault s)) (in-groups (turnsFault s) _ _))
+
+  pub header-facts : {f : Report} → f ≡ headerFault s → f .number ≡ 0 → HeaderFacts s
+  header-facts e z = header-says s .0 (rw e at z) .1
+
+  -- the layout, from the counts of HD and from the grid records
+  pub laid-out : {places : List ℕ} {stop cells links turns signals modes boxes entries first-entry : ℕ}
+      → HeaderFacts s → GridsLaid s (linksOf s) places stop cells
+      → links ≡ linksOf s → turns ≡ turnsOf s → signals ≡ signalsOf s → modes ≡ modesOf s → boxes ≡ boxesOf s → entries ≡ entriesOf s
+      → first-entry ≡ stop + arrivalSize links * boxes
+      → LaidOut s
+      (record {
+        links = links;
+        turns = turns;
+        signals = signals;
+        modes = modes;
+        boxes = boxes;
+        entries = entries;
+        «turns_start» = linkAt links;
+        «signals_start» = linkAt links + turnSize * turns;
+        grids = places;
+        «arrivals_start» = stop;
+        «entries_start» = first-entry;
+        cells = cells;
+      })
+  unfolding turnsStart signalsStart arrivalsStart entriesStart
+  laid-out {places} {stop} {cells} {links} {turns} {signals} {modes} {boxes} {entries} H L el et es em eb ee ef =
+      let few : links ≤ 8 = omega (arith, H .links-most) in
+      let far : arrivalSize links * boxes ≤ 8704 = box-offset links boxes few (omega (arith, H .boxes-most)) in
+      record {
+        links-are = el;
+        links-least = omega (arith, H .links-least);
+        links-most = few;
+        turns-are = et;
+        turns-most = omega (arith, H .turns-most);
+        signals-are = es;
+        signals-least = omega (arith, H .signals-least);
+        signals-most = omega (arith, H .signals-most);
+        modes-are = em;
+        modes-least = omega (arith, H .modes-least);
+        modes-most = omega (arith, H .modes-most);
+        boxes-are = eb;
+        boxes-least = omega (arith, H .boxes-least);
+        boxes-most = omega (arith, H .boxes-most);
+        entries-are = ee;
+        entries-least = omega (arith, H .entries-least);
+        entries-most = omega (arith, H .entries-most);
+        turns-start-is = rw el;
+        turns-start-most = omega arith;
+        signals-start-is = rw (el, et);
+        signals-start-most = omega (arith, H .turns-most);
+        grid-is = L .place;
+        grid-most = λ l lt. omega (arith, grid-end s l lt, L .end-is, L .end-most);
+        arrivals-start-is = L .end-is;
+        arrivals-start-most = omega (arith, L .end-most);
+        entries-start-is = rw (ef, L .end-is, el, eb);
+        entries-start-most = omega (arith, L .end-most);
+        cells-are = L .cells-are;
+        cells-least = L .cells-least;
+        cells-most = L .cells-most;
+      }

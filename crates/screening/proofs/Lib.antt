@@ -1,0 +1,4 @@
+pub mod Bounds
+pub mod Picking
+pub mod Screens
+pub mod Summing

@@ -1,0 +1,2 @@
+-- What the code of conditions 10 and 11 goes by.
+pub mod Roads

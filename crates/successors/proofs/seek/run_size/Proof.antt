@@ -1,0 +1,95 @@
+-- `successors::seek::run_size` meets its contract. Assumes nothing.
+use Prim.Native.Nat.{_+_, _*_, _-_, _≤_}
+use mathlib.Core.Path.{_≡_, sym}
+use native.Mathlib.Nat.{zero-mul}
+use native.Mathlib.Omega.{arith}
+use lib.ListN.{getD}
+use Rattle.certificate.proofs.Size.{cells-in-range}
+use Rattle.successors.specs.Ranges.{runSize}
+use Rattle.successors.proofs.Runs.{size-fits}
+use borrow.Author.Needs.{needs}
+use Rattle.successors.proofs.seek.run_size.Statement.{statement}
+use Rattle.successors.proofs.seek.run_size.Tie as tie
+
+-- the size as the code computes it, by the table of weights
+size : (a : tie.Start) → (getD (a .args .last .now) (a .args .k) 0 + 1 - getD (a .args .first .now) (a .args .k) 0) * getD (a .args .weights .now) (a .args .k) 0
+    ≡ runSize (a .args .s .now) (a .args .first .now) (a .args .last .now) (a .args .k)
+size a = rw (a .pre .0 .weight (a .args .k) (a .pre .2))
+
+fits : (a : tie.Start) → runSize (a .args .s .now) (a .args .first .now) (a .args .last .now) (a .args .k) ≤ 4096
+fits a = let s = a .args .s .now in
+    let R = a .pre .0 .readable in
+    omega (arith, size-fits s R _ _ (a .pre .1) (a .args .k) (a .pre .2), cells-in-range s R)
+
+mul-if1 : tie.Need-mul-if1
+mul-if1 c = search needs
+
+element-copy-out-if1 : tie.Need-element-copy-out-if1
+element-copy-out-if1 c = search needs
+
+mul-if1-2 : tie.Need-mul-if1-2
+mul-if1-2 c = search needs
+
+element-copy-out-if1-2 : tie.Need-element-copy-out-if1-2
+element-copy-out-if1-2 c = search needs
+
+returns : tie.Need-returns
+returns c =
+    let a = c .before .before .before .before in
+    let none : getD (a .args .last .now) (a .args .k) 0 + 1 - getD (a .args .first .now) (a .args .k) 0 ≡ 0 = omega (arith, c .if1 .taken) in
+    (rw none (sym (zero-mul _)), omega arith)
+
+mul-ahead : tie.Need-mul-ahead
+mul-ahead c = search needs
+
+element-copy-out-ahead : tie.Need-element-copy-out-ahead
+element-copy-out-ahead c = search needs
+
+add-ahead : tie.Need-add-ahead
+add-ahead c =
+    let a = c .before .before .before .before .before in
+    let k = a .args .k in
+    omega (arith, a .pre .1 .last-most k (a .pre .2), a .pre .0 .readable .grid k (a .pre .2) .count-most)
+
+mul-ahead-2 : tie.Need-mul-ahead-2
+mul-ahead-2 c = search needs
+
+element-copy-out-ahead-2 : tie.Need-element-copy-out-ahead-2
+element-copy-out-ahead-2 c = search needs
+
+sub-ahead : tie.Need-sub-ahead
+sub-ahead c = search needs
+
+mul-ahead-3 : tie.Need-mul-ahead-3
+mul-ahead-3 c = search needs
+
+element-copy-out-ahead-3 : tie.Need-element-copy-out-ahead-3
+element-copy-out-ahead-3 c = search needs
+
+ahead-requires : tie.Need-ahead-requires
+ahead-requires c κs = let a = c .before .before .before .before .before .before .before in omega (arith, size a, fits a)
+
+returns-2 : tie.Need-returns-2
+returns-2 c =
+    let a = c .before .before .before .before .before .before .before .before in
+    (omega (arith, c .ahead .ensures, size a), omega (arith, c .ahead .ensures, size a, fits a))
+
+pub run-size-spec : {M : Type 1} → statement M
+run-size-spec =
+    tie.close
+    (tie.spec
+    mul-if1
+    element-copy-out-if1
+    mul-if1-2
+    element-copy-out-if1-2
+    returns
+    mul-ahead
+    element-copy-out-ahead
+    add-ahead
+    mul-ahead-2
+    element-copy-out-ahead-2
+    sub-ahead
+    mul-ahead-3
+    element-copy-out-ahead-3
+    ahead-requires
+    returns-2)

@@ -1,0 +1,2 @@
+-- Ranges and runs, by which the code visits successors.
+pub mod Ranges

@@ -1,0 +1,88 @@
+// The intervals of each link that meet an image: first .. last, since edges ascend. Ends are in ten thousandths of a vehicle.
+ghost use mathlib.Core.Path.{_≡_};
+ghost use Prim.Native.Nat.{_+_, _*_, _<_};
+ghost use lib.Dec.{leb};
+ghost use Rattle.certificate.specs.Loops.{pick};
+ghost use Rattle.certificate.specs.Layout.{linksOf, intervalsOf};
+ghost use Rattle.certificate.specs.Facts.{Readable};
+ghost use Rattle.grid.specs.Intervals.{upperEdge};
+ghost use Rattle.cell_tables.specs.Tables.{EdgesOf, CountsOf};
+ghost use Rattle.successors.specs.Ranges.{IsFirst, IsLast, RangesOf};
+
+// The range of one link, and those of all.
+struct Range {
+    first: usize,
+    last: usize,
+}
+
+pub struct Ranges {
+    pub first: [usize; 8],
+    pub last: [usize; 8],
+}
+
+// The upper edge of interval i of link l: the lower edge of the next.
+fn upper_at(s: &[u8], edges: &[usize; 128], l: usize, i: usize) -> usize
+    requires { ⌜ Readable (now s) × EdgesOf (now s) (now edges) × (l < linksOf (now s)) × (i < intervalsOf (now s) l) ⌝ }
+    ensures { λ r. ⌜ r ≡ 10000 * upperEdge (now (s .entry)) l i ⌝ }
+{
+    10000 * edges[16 * l + i + 1]
+}
+
+// How many edges are at most `end`, where n were so before this one.
+fn passed(n: usize, edge: usize, end: usize) -> usize
+    requires { ⌜ n < 16 ⌝ }
+    ensures { λ r. ⌜ r ≡ pick (leb edge end) (n + 1) n ⌝ }
+{
+    if edge <= end {
+        return n + 1;
+    }
+    n
+}
+
+// The first interval of link l whose upper edge is above low, and the last whose lower edge is at most high. The last interval holds
+// its upper edge; where low is above that too, the first is the count.
+fn range_of(
+    s: &[u8],
+    edges: &[usize; 128],
+    l: usize,
+    count: usize,
+    low: usize,
+    high: usize,
+) -> Range
+    requires { ⌜ Readable (now s) × EdgesOf (now s) (now edges) × (l < linksOf (now s)) × (count ≡ intervalsOf (now s) l) ⌝ }
+    ensures { λ r. ⌜ IsFirst (now (s .entry)) l low (r .first) × IsLast (now (s .entry)) l high (r .last) ⌝ }
+{
+    let mut first = 0;
+    let mut last = 0;
+    let inner = count - 1;
+    for i in 0..inner {
+        let edge = upper_at(s, edges, l, i);
+        first = passed(first, edge, low);
+        last = passed(last, edge, high);
+    }
+    if upper_at(s, edges, l, inner) < low {
+        first = count;
+    }
+    Range { first, last }
+}
+
+pub fn ranges_of<'a>(
+    s: &[u8],
+    edges: &[usize; 128],
+    counts: &[usize; 8],
+    links: usize,
+    low: &'a [usize; 8],
+    high: &'a [usize; 8],
+) -> Ranges
+    requires { ⌜ Readable (now s) × EdgesOf (now s) (now edges) × CountsOf (now s) (now counts) × (links ≡ linksOf (now s)) ⌝ }
+    ensures { λ r. ⌜ RangesOf (now (s .entry)) (now (low .entry)) (now (high .entry)) (r .first) (r .last) ⌝ }
+{
+    let mut first = [0; 8];
+    let mut last = [0; 8];
+    for l in 0..links {
+        let r = range_of(s, edges, l, counts[l], low[l], high[l]);
+        first[l] = r.first;
+        last[l] = r.last;
+    }
+    Ranges { first, last }
+}

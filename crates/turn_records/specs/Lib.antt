@@ -1,0 +1,2 @@
+-- What the code that reads turns goes by.
+pub mod Carried

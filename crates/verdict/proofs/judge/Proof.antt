@@ -1,0 +1,20 @@
+-- `verdict::judge` meets its contract. Assumes nothing.
+use Rattle.verdict.proofs.JudgeCases.{judge-refuses, judge-goes-on, judge-answers}
+use borrow.Author.Needs.{needs}
+use Rattle.verdict.proofs.judge.Statement.{statement}
+use Rattle.verdict.proofs.judge.Tie as tie
+
+screen-requires : tie.Need-screen-requires
+screen-requires c κs = search needs
+
+returns : tie.Need-returns
+returns c = judge-refuses _ _ (c .before .before .before .screen .ensures) (c .if1 .taken)
+
+judge-screened-requires : tie.Need-judge-screened-requires
+judge-screened-requires c κs = judge-goes-on _ _ (c .before .before .before .screen .ensures) (c .if1 .left)
+
+returns-2 : tie.Need-returns-2
+returns-2 c = judge-answers _ _ (c .before .before .before .before .screen .ensures) (c .before .if1 .left) _ (c .judge-screened .ensures)
+
+pub judge-spec : {M : Type 1} → statement M
+judge-spec = tie.close (tie.spec screen-requires returns judge-screened-requires returns-2)

@@ -1,0 +1,69 @@
+-- `verdict::judge_entry` meets its contract. Assumes nothing.
+use native.Mathlib.Omega.{arith}
+use Rattle.verdict.proofs.Chaining.{not-standing, searched}
+use Rattle.entry_search.proofs.Ranged.{standing-count}
+use borrow.Author.Needs.{needs}
+use Rattle.verdict.proofs.judge_entry.Statement.{statement}
+use Rattle.verdict.proofs.judge_entry.Tie as tie
+
+task-of-requires : tie.Need-task-of-requires
+task-of-requires c κs = search needs
+
+cell-of-requires : tie.Need-cell-of-requires
+cell-of-requires c κs = search needs
+
+cell-edges-requires : tie.Need-cell-edges-requires
+cell-edges-requires c κs = let p = c .before .before .before .before .pre in
+    let T = p .1 in
+    let R = T .screened .readable in
+    (R, p .5, T .edge, T .grid .link, rw (c .cell-of .ensures .0) (R .entry _ (p .3) .cell))
+
+check-standing-requires : tie.Need-check-standing-requires
+check-standing-requires c κs = let p = c .before .before .before .before .before .before .before .before .pre in
+    let T = p .1 in
+    let K = c .before .before .before .before .before .task-of .ensures in
+    let R = T .screened .readable in (
+      omega (arith, T .grid .link, R .header .links-most),
+      T .grid .link,
+      omega (arith, p .3, R .header .entries-most),
+      rw (K .1) at (K .0 .rank-is),
+      (rw (c .before .before .before .before .cell-of .ensures .0) at (c .before .before .before .cell-edges .ensures)) .upper-is,
+    )
+
+returns : tie.Need-returns
+returns c = let f = c .before .before .check-standing in
+    (not-standing _ _ _ _ (f .ensures) (c .if1 .taken), omega (arith, standing-count _ _ _ _ (f .ensures), c .before .before .before .before .before .before .before .before .before .before .before .pre .4), c .before .before .before .before .before .before .before .before .before .before .before .pre .6)
+
+entry-ends-requires : tie.Need-entry-ends-requires
+entry-ends-requires c κs = let p = c .before .before .before .before .before .before .before .before .before .before .before .before .before .before .before .pre in
+    let T = p .1 in
+    (T .screened, p .0, T .turn, p .3, rw (c .before .before .before .before .before .before .before .before .before .before .before .cell-of .ensures .0) at (c .before .before .before .before .before .before .before .before .before .before .cell-edges .ensures))
+
+search-boxes-requires : tie.Need-search-boxes-requires
+search-boxes-requires c κs = let p = c .before .before .before .before .before .before .before .before .before .before .before .before .before .before .before .before .before .pre in
+    let K = c .before .before .before .before .before .before .before .before .before .before .before .before .before .before .task-of .ensures in
+    (p .1, p .2, K .0, rw (K .1) (c .before .entry-ends .ensures), rw (K .1) (p .4), p .6)
+
+same-length : tie.Need-same-length
+same-length c = omega (arith, c .before .before .search-boxes .ensures .2, c .before .before .before .before .before .before .before .before .before .before .before .before .before .before .before .before .before .before .before .before .pre .6)
+
+returns-2 : tie.Need-returns-2
+returns-2 c = let K = c .before .before .before .before .before .before .before .before .before .before .before .before .before .before .before .before .before .task-of .ensures in
+    let f = c .before .before .before .before .before .before .before .before .before .before .before .check-standing in
+    let r = c .before .before .search-boxes .ensures in
+    let e = rw (K .1) at (r .0) in
+    (searched _ _ _ _ (f .ensures) _ (c .before .before .before .before .before .before .before .before .before .if1 .left) e, rw (K .1) at (r .1), r .2)
+
+pub judge-entry-spec : {M : Type 1} → statement M
+judge-entry-spec =
+    tie.close
+    (tie.spec
+    task-of-requires
+    cell-of-requires
+    cell-edges-requires
+    check-standing-requires
+    returns
+    entry-ends-requires
+    search-boxes-requires
+    same-length
+    returns-2)

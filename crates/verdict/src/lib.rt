@@ -1,0 +1,167 @@
+// The verdict of any bytes: all tests before 12, then every entry in order.
+ghost use mathlib.Core.Path.{_≡_};
+ghost use Prim.Native.Nat.{_+_, _*_, _<_, _≤_};
+ghost use lib.ListN.{length};
+ghost use Rattle.certificate.specs.Layout.{entriesOf, boxesOf, cellsOf};
+ghost use Rattle.certificate.specs.Facts.{Readable};
+ghost use Rattle.reading.specs.Laid.{LaidOut};
+ghost use Rattle.network.specs.Laws.{Screened};
+ghost use Rattle.images.specs.Ends.{FirstTurns};
+ghost use Rattle.cell_tables.specs.Tables.{GridOf, DigitsOf};
+ghost use Rattle.rank_tables.specs.Index.{RanksOf};
+ghost use Rattle.judging.specs.Judging.{judgingFrom};
+ghost use Rattle.entry_search.specs.Tables.{CapsOf, TablesOf, entryAlone};
+ghost use Rattle.judging.specs.Verdict.{verdictOf};
+
+mod amounts;
+mod entry;
+
+use cell_tables::digits as cells;
+use cell_tables::tables;
+use certificate::Report;
+use entry_records::entries;
+use entry_search::LinkTables;
+use entry_search::search;
+use entry_search::standing;
+use images::supply;
+use rank_tables::index;
+use rank_tables::ranks;
+use reading::Layout;
+use screening::screen;
+
+// One entry judged alone: its standing, then its successors.
+fn judge_entry(
+    s: &[u8],
+    layout: Layout,
+    tables: LinkTables,
+    ranks: &[u32; 32768],
+    digits: &[u8; 32768],
+    edges: &[usize; 128],
+    arrivals: &[usize; 128],
+    runs: &mut [u16],
+    e: usize,
+    count: u32,
+) -> Report
+    requires { ⌜ LaidOut (now s) layout × TablesOf (now s) tables (now edges) (now arrivals) × RanksOf (now s) (now ranks) × (e < entriesOf (now s)) × (count ≤ 32768 * e) × DigitsOf (now s) (now digits) × (length (now runs) ≡ 4096) ⌝ }
+    ensures { λ r. ⌜ (r ≡ entryAlone (now (s .entry)) e count) × (r .count ≤ 32768 * (e + 1)) × (length (now (runs .exit)) ≡ 4096) ⌝ }
+{
+    let task = entry::task_of(s, layout, e);
+    let c = entries::cell_of(s, layout.entries_start, e);
+    let cell = entry::cell_edges(s, digits, edges, tables.links, c);
+    let lower = cell.lower;
+    let upper = cell.upper;
+    let f = standing::check_standing(s, tables.links, e, task.rank, &upper, count);
+    if f.number != 0 {
+        return f;
+    }
+    let before = entry::entry_ends(s, layout, &tables.first_turns, e, &lower, &upper);
+    search::search_boxes(s, task, tables, ranks, edges, arrivals, runs, before, count)
+}
+
+// Entries in order: the first refusal, or accepted with the count.
+fn judge_entries(
+    s: &[u8],
+    layout: Layout,
+    tables: LinkTables,
+    ranks: &[u32; 32768],
+    digits: &[u8; 32768],
+    edges: &[usize; 128],
+    arrivals: &[usize; 128],
+    runs: &mut [u16],
+) -> Report
+    requires { ⌜ LaidOut (now s) layout × TablesOf (now s) tables (now edges) (now arrivals) × RanksOf (now s) (now ranks) × DigitsOf (now s) (now digits) × (length (now runs) ≡ 4096) ⌝ }
+    ensures { λ r. ⌜ r ≡ judgingFrom (now (s .entry)) 0 0 ⌝ }
+{
+    let entries = layout.entries;
+    let mut count: u32 = 0;
+    for e in 0..entries {
+        let r = judge_entry(
+            s,
+            layout,
+            tables,
+            ranks,
+            digits,
+            edges,
+            arrivals,
+            runs,
+            e,
+            count,
+        );
+        if r.number != 0 {
+            return r;
+        }
+        count = r.count;
+    }
+    standing::report(0, 0, 0, count)
+}
+
+// The tables of the links.
+fn link_tables(s: &[u8], layout: Layout) -> LinkTables
+    requires { ⌜ Readable (now s) × LaidOut (now s) layout ⌝ }
+    ensures { λ r. ⌜ GridOf (now (s .entry)) (r .counts) (r .weights) (r .links) × CapsOf (now (s .entry)) (r .caps) × FirstTurns (now (s .entry)) (r .«first_turns») ⌝ }
+{
+    let links = layout.links;
+    let places = layout.grids;
+    let counts = tables::counts_of(s, &places, links);
+    let weights = tables::weights_of(s, &counts, links, layout.cells);
+    let caps = amounts::caps_of(s, links);
+    let first_turns = supply::first_turns(s, layout.turns_start, layout.turns);
+    LinkTables {
+        links,
+        counts,
+        weights,
+        caps,
+        first_turns,
+    }
+}
+
+// Fills the table of ranks, by way of the index.
+fn rank_table(s: &[u8], layout: Layout, ranks: &mut [u32])
+    requires { ⌜ Readable (now s) × LaidOut (now s) layout × (length (now ranks) ≡ 32768) ⌝ }
+    ensures { λ _. ⌜ RanksOf (now (s .entry)) (now (ranks .exit)) ⌝ }
+{
+    let start = layout.entries_start;
+    let cells = layout.cells;
+    let index = index::index_of(s, start, layout.entries, cells);
+    ranks::fill_ranks(s, start, layout.entries, layout.modes, cells, &index, ranks);
+}
+
+// Makes the tables, once, and judges by them.
+fn judge_screened(s: &[u8], layout: Layout) -> Report
+    requires { ⌜ Screened (now s) × LaidOut (now s) layout ⌝ }
+    ensures { λ r. ⌜ r ≡ judgingFrom (now (s .entry)) 0 0 ⌝ }
+{
+    let links = layout.links;
+    let places = layout.grids;
+    let tables = link_tables(s, layout);
+    let counts = tables.counts;
+    let weights = tables.weights;
+    let digits = cells::digits_of(s, &counts, &weights, links, layout.cells);
+    let edges = tables::edges_of(s, &places, links);
+    let arrivals = amounts::arrivals_of(s, layout.arrivals_start, links, layout.boxes);
+    let mut ranks = [0u32; 32768];
+    rank_table(s, layout, &mut ranks);
+    let mut runs = [0u16; 4096];
+    judge_entries(
+        s,
+        layout,
+        tables,
+        &ranks,
+        &digits,
+        &edges,
+        &arrivals,
+        &mut runs,
+    )
+}
+
+// The verdict.
+pub fn judge(s: &[u8]) -> Report
+    ensures { λ r. ⌜ (r ≡ verdictOf (now (s .entry))) × (r .count ≤ entriesOf (now (s .entry)) * boxesOf (now (s .entry)) * cellsOf (now (s .entry))) ⌝ }
+{
+    let found = screen::screen(s);
+    let f = found.report;
+    if f.number != 0 {
+        return f;
+    }
+    judge_screened(s, found.layout)
+}
