@@ -1,1 +1,2 @@
+-- What a query finds, from the tests that it passes or fails.
 pub mod Answers

@@ -5,20 +5,19 @@ ghost use lib.Dec.{leb};
 ghost use Rattle.certificate.specs.Loops.{every};
 ghost use Rattle.certificate.specs.Layout.{linksOf, capOf};
 ghost use Rattle.judging.specs.Asking.{queueAt, isProper};
-use octets::limits;
+use certificate::limits;
+use octets::numbers;
 use road_records::links;
-
-fn wide(x: u32) -> usize
-    ensures { λ r. ⌜ (r ≡ x) × (r ≤ 4294967295) ⌝ }
-{
-    x as usize
-}
 
 // The queue of a link, 0 past the end.
 fn queue_at(queues: &[u32], l: usize) -> usize
     ensures { λ r. ⌜ r ≡ queueAt (now (queues .entry)) l ⌝ }
 {
-    if l < queues.len() { wide(queues[l]) } else { 0 }
+    if l < queues.len() {
+        numbers::wide_quad(queues[l])
+    } else {
+        0
+    }
 }
 
 // No queue is above cap times the scale.
@@ -26,7 +25,7 @@ fn queues_fit(s: &[u8], links: usize, queues: &[u32], scale: u32) -> bool
     requires { ⌜ links ≤ 8 ⌝ }
     ensures { λ r. ⌜ r ≡ every links (λ l. leb (queueAt (now (queues .entry)) l) (capOf (now (s .entry)) l * scale)) ⌝ }
 {
-    let unit = wide(scale);
+    let unit = numbers::wide_quad(scale);
     for l in 0..links {
         if queue_at(queues, l) > links::cap_of(s, l) * unit {
             return false;

@@ -2,7 +2,6 @@
 ghost use lib.ListN.{take};
 ghost use Rattle.reading.specs.Laid.{ReadAs};
 ghost use Rattle.asking.specs.Asked.{storedFault};
-use screening::screen;
 
 // Screens the first n of the bytes; refuses where there are fewer.
 pub fn stored_reading(bytes: &[u8], n: usize) -> reading::Reading
@@ -11,5 +10,5 @@ pub fn stored_reading(bytes: &[u8], n: usize) -> reading::Reading
     if n > bytes.len() {
         return reading::refused(octets::refuse(18, 0));
     }
-    screen::screen(&bytes[0..n])
+    screening::screen(&bytes[0..n])
 }

@@ -6,7 +6,7 @@ ghost use Rattle.certificate.specs.Checks.{firstBad};
 ghost use Rattle.certificate.specs.Layout.{linksOf, arrivalsStart, arrivalSize, lowOf, highOf};
 ghost use Rattle.certificate.specs.Records.{rangeOk, rangeFault, arrivalFault};
 use certificate::Report;
-use octets::limits;
+use certificate::limits;
 
 // Where the record of box b stands.
 pub fn arrival_at(start: usize, links: usize, b: usize) -> usize
@@ -16,14 +16,14 @@ pub fn arrival_at(start: usize, links: usize, b: usize) -> usize
     start + (2 + 4 * links) * b
 }
 
-pub fn low_of(s: &[u8], start: usize, links: usize, b: usize, l: usize) -> usize
+fn low_of(s: &[u8], start: usize, links: usize, b: usize, l: usize) -> usize
     requires { ⌜ (l < 256) × (b < 256) × (links ≤ 8) × (links ≡ linksOf (now s)) × (start ≤ 100000) × (start ≡ arrivalsStart (now s)) ⌝ }
     ensures { λ r. ⌜ (r ≡ lowOf (now (s .entry)) b l) × (r < 65536) ⌝ }
 {
     octets::u16_at(s, arrival_at(start, links, b) + (2 + 4 * l))
 }
 
-pub fn high_of(s: &[u8], start: usize, links: usize, b: usize, l: usize) -> usize
+fn high_of(s: &[u8], start: usize, links: usize, b: usize, l: usize) -> usize
     requires { ⌜ (l < 256) × (b < 256) × (links ≤ 8) × (links ≡ linksOf (now s)) × (start ≤ 100000) × (start ≡ arrivalsStart (now s)) ⌝ }
     ensures { λ r. ⌜ (r ≡ highOf (now (s .entry)) b l) × (r < 65536) ⌝ }
 {

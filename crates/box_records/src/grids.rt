@@ -6,7 +6,7 @@ ghost use Rattle.certificate.specs.Layout.{capOf, gridStart, countAt, cutAt, gr
 ghost use Rattle.certificate.specs.Records.{cutFault, countOk, gridFault};
 ghost use Rattle.box_records.specs.GridRecords.{cutsFault, GridsRead};
 use certificate::Report;
-use octets::limits;
+use certificate::limits;
 use road_records::links;
 
 // What reading the grids finds: their report; and where that is no refusal, where each link's record stands,

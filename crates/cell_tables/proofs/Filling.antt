@@ -12,7 +12,8 @@ use Rattle.certificate.specs.Facts.{Readable}
 use Rattle.certificate.proofs.Offsets.{starts, grid-end}
 use Rattle.certificate.proofs.Size.{readable-fits}
 use Rattle.grid.specs.Intervals.{lowerEdge, upperEdge}
-use Rattle.cell_tables.specs.Tables.{Holds, edgeOf, EdgesOf, weightOf, digitEntry, DigitsOf}
+use Rattle.octets.specs.Tables.{Holds}
+use Rattle.cell_tables.specs.Tables.{edgeOf, EdgesOf, weightOf, digitEntry, DigitsOf}
 use Rattle.grid.proofs.Edges.{upper-inner, upper-last}
 use Rattle.cell_tables.proofs.Blocks.{interval-quotient, weight-least}
 

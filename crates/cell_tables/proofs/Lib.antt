@@ -1,3 +1,4 @@
+-- The tables of a grid, filled entry by entry, and the cell of given queues.
 pub mod Blocks
 pub mod Filling
 pub mod Locating

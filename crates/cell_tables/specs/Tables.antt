@@ -9,10 +9,7 @@ use Rattle.certificate.specs.Layout.{linksOf, capOf, gridAt, intervalsOf, cells
 use Rattle.certificate.specs.Facts.{Readable}
 use Rattle.grid.specs.Intervals.{lowerEdge, upperEdge}
 use Rattle.grid.specs.Cells.{intervalIn}
-
--- the table a holds f 0 .. f (n - 1)
-abbrev pub Holds : ℕ → (ℕ → ℕ) → List ℕ → Type 0
-Holds n f a = (k : ℕ) → k < n → getD a k 0 ≡ f k
+use Rattle.octets.specs.Tables.{Holds}
 
 -- where the grid record of each link starts
 abbrev pub PlacesOf : List ℕ → List ℕ → Type 0

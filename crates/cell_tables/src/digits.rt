@@ -3,7 +3,8 @@
 ghost use mathlib.Core.Path.{_≡_};
 ghost use Prim.Native.Nat.{_<_};
 ghost use Rattle.certificate.specs.Layout.{cellsOf};
-ghost use Rattle.cell_tables.specs.Tables.{Holds, GridOf, digitEntry, DigitsOf};
+ghost use Rattle.octets.specs.Tables.{Holds};
+ghost use Rattle.cell_tables.specs.Tables.{GridOf, digitEntry, DigitsOf};
 
 // Entry k: the interval of link k % 8 in cell k / 8, and 0 for a link that does not exist. The entries before it are filled.
 fn digit_at(

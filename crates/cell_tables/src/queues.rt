@@ -9,12 +9,7 @@ ghost use Rattle.certificate.specs.Facts.{Readable};
 ghost use Rattle.grid.specs.Cells.{cellAt};
 ghost use Rattle.cell_tables.specs.Tables.{PlacesOf, QueuesFit};
 use box_records::grids;
-
-fn wide(x: u32) -> usize
-    ensures { λ r. ⌜ r ≡ x ⌝ }
-{
-    x as usize
-}
+use octets::numbers;
 
 // The interval that holds x over scale, of the link whose grid record starts at o: the first whose upper edge is above x, else the last.
 fn interval_at(s: &[u8], o: usize, scale: usize, x: usize) -> usize
@@ -45,11 +40,11 @@ pub fn cell_at(s: &[u8], places: &[usize; 8], links: usize, queues: &[u32], scal
     requires { ⌜ Readable (now s) × PlacesOf (now s) (now places) × (links ≡ linksOf (now s)) × (length (now queues) ≡ links) × (scale ≤ 100000) × QueuesFit (now s) scale (now queues) ⌝ }
     ensures { λ r. ⌜ (r ≡ cellAt (now (s .entry)) scale (λ l. getD (now (queues .entry)) l 0)) × (r < cellsOf (now (s .entry))) ⌝ }
 {
-    let unit = wide(scale);
+    let unit = numbers::wide_quad(scale);
     let mut cell = 0;
     for l in 0..links {
         let o = places[l];
-        let x = wide(queues[l]);
+        let x = numbers::wide_quad(queues[l]);
         cell = with_link(cell, grids::count_at(s, o), interval_at(s, o, unit, x));
     }
     cell

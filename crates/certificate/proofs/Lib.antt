@@ -1,3 +1,4 @@
+-- The laws of tests, loops and reading, from one test up to the whole.
 pub mod Tests
 pub mod Loops
 pub mod Says

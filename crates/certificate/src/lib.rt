@@ -1,4 +1,7 @@
-// Reports: the answer of every call. The definitions of a certificate stand in specs/: there is nothing to execute.
+// Reports, the answer of every call, and the limits of the format. The definitions of a certificate stand in specs/: there is
+// nothing to execute.
+
+pub mod limits;
 
 // The answer of a call: its number (0 is success, else the refusal), places A and B, and the count of successors looked up.
 pub struct Report {

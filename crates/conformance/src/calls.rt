@@ -4,28 +4,27 @@
 //   write NUMBER A B COUNT sum H
 //   list NUMBER A B COUNT, then the text
 // H is the hash of the whole buffer after the call. All numbers are decimal.
-use crate::buffer;
-use crate::output;
+use case_output::buffer;
 use controller::Controller;
 
 pub fn do_load(state: Controller, bytes: &[u8]) -> Controller {
     let loaded = state.load(bytes);
     let next = loaded.state;
-    output::report(b"load", loaded.report);
-    output::small(b" mode ", next.mode);
-    output::field(b" length ", next.len as u64);
-    output::text(b"\n");
+    case_output::report(b"load", loaded.report);
+    case_output::small(b" mode ", next.mode);
+    case_output::field(b" length ", next.len as u64);
+    case_output::text(b"\n");
     next
 }
 
 pub fn do_query(state: Controller, queues: &[u32], scale: u32) -> Controller {
     let shown = state.query(queues, scale);
     let next = shown.state;
-    output::report(b"query", shown.report);
-    output::small(b" signal ", shown.signal);
-    output::small(b" green ", shown.green);
-    output::small(b" mode ", next.mode);
-    output::text(b"\n");
+    case_output::report(b"query", shown.report);
+    case_output::small(b" signal ", shown.signal);
+    case_output::small(b" green ", shown.green);
+    case_output::small(b" mode ", next.mode);
+    case_output::text(b"\n");
     next
 }
 
@@ -34,14 +33,14 @@ pub fn do_write(state: Controller, lent: &mut [u8], size: usize, start: usize) {
         return;
     }
     buffer::prepare(&mut lent[0..size]);
-    output::report(b"write", state.write(&mut lent[0..size], start));
-    output::medium(b" sum ", buffer::hash(&lent[0..size]));
-    output::text(b"\n");
+    case_output::report(b"write", state.write(&mut lent[0..size], start));
+    case_output::medium(b" sum ", buffer::hash(&lent[0..size]));
+    case_output::text(b"\n");
 }
 
 pub fn do_list(bytes: &[u8], text: &mut [u8]) {
     let report = listing::list(bytes, text);
-    output::report(b"list", report);
-    output::text(b"\n");
-    output::front(text, report.a);
+    case_output::report(b"list", report);
+    case_output::text(b"\n");
+    case_output::front(text, report.a);
 }

@@ -1,12 +1,9 @@
 // Runs the stored cases that standard input holds, and prints a line for each case and call.
-// A case is the byte C and its calls (input.rt); the byte E ends the stream.
+// A case is the byte C and its calls (crate case_input); the byte E ends the stream.
+use case_input::Call;
 use controller::Controller;
-use input::Call;
 
-mod buffer;
 mod calls;
-mod input;
-mod output;
 mod parts;
 
 // A state made by hand: stored bytes, then zeros; its length; its mode.
@@ -47,26 +44,26 @@ fn answer(
 }
 
 fn main() {
-    let mut bytes = [0u8; input::MOST_BYTES];
-    let mut queues = [0u32; input::MOST_QUEUES];
-    let mut lent = [0u8; input::MOST_LENT];
+    let mut bytes = [0u8; case_input::MOST_BYTES];
+    let mut queues = [0u32; case_input::MOST_QUEUES];
+    let mut lent = [0u8; case_input::MOST_LENT];
     let mut state = Controller::fresh();
     let mut cases = 0;
     let mut turns = u64::MAX;
     while turns > 0 {
         turns -= 1;
-        let mark = input::octet();
+        let mark = case_input::octet();
         if mark == b'E' {
             return;
         }
         if mark == b'C' {
-            output::case(cases);
+            case_output::case(cases);
             cases = std::num::wrapping_add_u64(cases, 1);
             state = Controller::fresh();
         } else {
-            let call = input::read_call(mark, &mut bytes, &mut queues);
-            if call.n == input::BROKEN {
-                output::text(b"the stream is broken\n");
+            let call = case_input::read_call(mark, &mut bytes, &mut queues);
+            if call.n == case_input::BROKEN {
+                case_output::text(b"the stream is broken\n");
                 return;
             }
             state = answer(state, call, &bytes, &queues, &mut lent);

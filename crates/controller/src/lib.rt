@@ -2,7 +2,7 @@
 ghost use mathlib.Core.Path.{_≡_};
 ghost use Rattle.controller.specs.State.{freshState};
 use certificate::Report;
-use octets::limits;
+use certificate::limits;
 
 mod loading;
 mod querying;

@@ -25,16 +25,11 @@ fn write_stored(bytes: &[u8], n: usize, buffer: &mut [u8], start: usize) -> Repo
         return octets::refuse(17, 0);
     }
     filling::put(bytes, n, &mut buffer[start..]);
-    Report {
-        number: 0,
-        a: n as u32,
-        b: 0,
-        count: 0,
-    }
+    octets::report(0, n, 0, 0)
 }
 
 // Writes the first n of a state's bytes into the buffer from start on; refuses where they are no certificate (18) or there is no room (17).
-pub fn write_from(bytes: &[u8], n: usize, buffer: &mut [u8], start: usize) -> Report
+fn write_from(bytes: &[u8], n: usize, buffer: &mut [u8], start: usize) -> Report
     requires { ⌜ length (now bytes) ≡ maxLength ⌝ }
     ensures { λ r. ⌜ (r ≡ writeReport (storing (now (bytes .entry)) n) (now (buffer .entry)) start) × (now (buffer .exit) ≡ writeBuffer (storing (now (bytes .entry)) n) (now (buffer .entry)) start) ⌝ }
 {

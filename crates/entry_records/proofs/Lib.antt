@@ -1,1 +1,2 @@
+-- Pairs of entries as keys that ascend.
 pub mod EntryPairs

@@ -8,7 +8,7 @@ ghost use Rattle.certificate.specs.Records.{entryOk, entryFault};
 ghost use Rattle.entry_records.specs.Keys.{IsKey, KeyBefore};
 ghost use Rattle.entry_records.specs.Keys.{CountsOf};
 use certificate::Report;
-use octets::limits;
+use certificate::limits;
 
 // How many signals, modes and cells there are.
 pub struct Counts {

@@ -1,5 +1,5 @@
 -- The tables of caps and arrivals, and the ends of an entry's image with the arrivals of a box. Assumes nothing.
-use Prim.Native.Nat.{ℕ, _+_, _*_, _/_, _%_, _≤_, _<_, min}
+use Prim.Native.Nat.{ℕ, _+_, _*_, _≤_, _<_, min}
 use mathlib.Core.List.{List}
 use mathlib.Core.Path.{_≡_, refl, _∙_}
 use native.Mathlib.Omega.{arith}
@@ -10,24 +10,9 @@ use Rattle.network.specs.Network.{networkOf, limitOf}
 use Rattle.network.specs.Laws.{Screened}
 use Rattle.images.proofs.Arriving.{end-arriving}
 use Rattle.grid.specs.Successors.{imageLow, imageHigh}
-use Rattle.cell_tables.specs.Tables.{Holds}
 use Rattle.grid.proofs.Images.{image-is-smallest}
-use Rattle.entry_search.specs.Tables.{CapsOf, ArrivalsOf, arrivalEntry, EntryEnds, EntryImage}
-
--- a table filled entry by entry holds the arrivals of each box
-pub arrivals-filled : (s a : List ℕ) (n : ℕ) → linksOf s ≤ 8 → n ≡ 16 * boxesOf s → Holds n (arrivalEntry s) a → ArrivalsOf s a
-unfolding arrivalEntry
-arrivals-filled s a n few w h =
-    record {
-      low-is = λ b l hb hl.
-          let q : (16 * b + 2 * l) / 16 ≡ b = omega arith in
-          let p : 2 + 2 * ((16 * b + 2 * l) % 16) ≡ 2 + 4 * l = omega arith in
-          h (16 * b + 2 * l) (omega arith) ∙ rw (q, p);
-      high-is = λ b l hb hl.
-          let q : (16 * b + 1 + 2 * l) / 16 ≡ b = omega arith in
-          let p : 2 + 2 * ((16 * b + 1 + 2 * l) % 16) ≡ 4 + 4 * l = omega arith in
-          h (16 * b + 1 + 2 * l) (omega arith) ∙ rw (q, p);
-    }
+use Rattle.entry_setup.specs.Tables.{CapsOf, ArrivalsOf, EntryEnds}
+use Rattle.entry_search.specs.Search.{EntryImage}
 
 module _ (s : List ℕ) (b links : ℕ) (arrivals : List ℕ) (R : Readable s) (hb : b < boxesOf s) (w : links ≡ linksOf s) (A : ArrivalsOf s arrivals) where
   -- arrivals are small

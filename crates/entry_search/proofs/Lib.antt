@@ -1,5 +1,5 @@
+-- The successors of an entry, and the nested search through them.
 pub mod Arriving
-pub mod Edges
 pub mod Ranged
 pub mod Searching
 pub mod Successors

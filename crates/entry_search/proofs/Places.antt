@@ -12,9 +12,10 @@ use Rattle.certificate.specs.Layout.{cellsOf}
 use Rattle.certificate.proofs.Tests.{or-next, or-stop, or-both}
 use Rattle.successors.specs.Ranges.{startAt}
 use Rattle.successors.proofs.Lists.{start-in, start-past}
-use Rattle.entry_search.specs.declared.Task.{Task}
+use Rattle.entry_setup.specs.declared.Task.{Task}
 use Rattle.judging.specs.Judging.{follows, successorFault, accepted}
-use Rattle.entry_search.specs.Tables.{BoxRuns, boxesFrom, cellsFrom, IsTask}
+use Rattle.entry_search.specs.Search.{BoxRuns, boxesFrom, cellsFrom}
+use Rattle.entry_setup.specs.Tables.{IsTask}
 use Rattle.entry_search.proofs.Successors.{looked-refused, looked-fine, fault-count}
 use Rattle.entry_search.proofs.Searching.{open-box, shut-box, end-search, skip, holds, stops}
 

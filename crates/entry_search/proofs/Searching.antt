@@ -10,7 +10,7 @@ use Rattle.certificate.specs.Layout.{cellsOf, boxesOf}
 use Rattle.certificate.proofs.Tests.{or-next, or-stop}
 use Rattle.certificate.proofs.Loops.{from-turn, from-end}
 use Rattle.judging.specs.Judging.{follows, successorFault, countAfter, lookFault, cellTurn, boxTurn, accepted}
-use Rattle.entry_search.specs.Tables.{boxesFrom, cellsFrom}
+use Rattle.entry_search.specs.Search.{boxesFrom, cellsFrom}
 
 module _ (s : List ℕ) (e b d n : ℕ) {t : Report} where
   -- a box is opened at its first cell, and shut after its last one

@@ -12,11 +12,11 @@ use Rattle.certificate.specs.declared.Report.{Report}
 use Rattle.certificate.specs.Checks.{result, fine, need, orElse}
 use Rattle.certificate.specs.Layout.{nextModeOf, rankOf}
 use Rattle.certificate.proofs.Tests.{and-both, need-pass, need-fail, or-next, or-stop}
-use Rattle.entry_search.specs.declared.Task.{Task}
+use Rattle.entry_setup.specs.declared.Task.{Task}
 use Rattle.judging.specs.Lookup.{entryFor, isListed}
 use Rattle.rank_tables.specs.Index.{rankAt, RanksOf}
 use Rattle.judging.specs.Judging.{isLower, successorFault, accepted}
-use Rattle.entry_search.specs.Tables.{limitFor, IsTask}
+use Rattle.entry_setup.specs.Tables.{limitFor, IsTask}
 
 -- a successor's refusal is known by its number
 module _ (s : List ℕ) (e d n : ℕ) where

@@ -1,2 +1,2 @@
--- What judging one entry goes by, and the parts that single functions answer for.
-pub mod Tables
+-- The parts of judging that single functions answer for.
+pub mod Search

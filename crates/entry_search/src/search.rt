@@ -4,25 +4,14 @@ ghost use Prim.Native.Nat.{_+_, _*_, _<_, _≤_};
 ghost use lib.ListN.{length};
 ghost use Rattle.rank_tables.specs.Index.{RanksOf};
 ghost use Rattle.judging.specs.Judging.{successorFault};
-ghost use Rattle.entry_search.specs.Tables.{TablesOf, EntryEnds, boxesFrom, IsTask};
-use crate::LinkTables;
-use crate::Task;
+ghost use Rattle.entry_setup.specs.Tables.{TablesOf, EntryEnds, IsTask};
+ghost use Rattle.entry_search.specs.Search.{boxesFrom};
 use crate::boxes;
-use crate::standing;
 use certificate::Report;
+use entry_setup::LinkTables;
+use entry_setup::Task;
 use images::ends;
-
-fn wide(x: u32) -> usize
-    ensures { λ r. ⌜ (r ≡ x) × (r ≤ 4294967295) ⌝ }
-{
-    x as usize
-}
-
-fn wide_cell(x: u16) -> usize
-    ensures { λ r. ⌜ r ≡ x ⌝ }
-{
-    x as usize
-}
+use octets::numbers;
 
 // The number of the refusal of successor d: 14 where it is not listed with the next mode, 15 where its rank is not lower, else 0.
 fn successor_number(s: &[u8], task: Task, ranks: &[u32; 32768], d: usize) -> u8
@@ -30,7 +19,7 @@ fn successor_number(s: &[u8], task: Task, ranks: &[u32; 32768], d: usize) -> u8
     ensures { λ r. ⌜ r ≡ successorFault (now (s .entry)) (task .entry) d 0 .number ⌝ }
 {
     let at = task.row + d;
-    let v = wide(ranks[at]);
+    let v = numbers::wide_quad(ranks[at]);
     if (v != 0) & (v <= task.limit) {
         return 0;
     }
@@ -57,28 +46,28 @@ pub fn search_boxes(
     requires { ⌜ TablesOf (now s) tables (now edges) (now arrivals) × RanksOf (now s) (now ranks) × IsTask (now s) task × EntryEnds (now s) (task .entry) (before .low) (before .high) × (count ≤ 32768 * task .entry) × (length (now runs) ≡ 4096) ⌝ }
     ensures { λ r. ⌜ (r ≡ boxesFrom (now (s .entry)) (task .entry) 0 count) × (r .count ≤ 32768 * (task .entry + 1)) × (length (now (runs .exit)) ≡ 4096) ⌝ }
 {
-    let mut found = standing::report(0, 0, 0, count);
+    let mut found = octets::report(0, 0, 0, count);
     'search: for b in 0..task.boxes {
         let r = boxes::box_runs(s, task, tables, edges, arrivals, before, b, runs);
         let n = r.count;
         let size = r.size;
         let mut i = 0;
         while i < n {
-            let first = wide_cell(runs[i]);
+            let first = numbers::wide_pair(runs[i]);
             let end = first + size;
             let mut d = first;
             while d < end {
                 let number = successor_number(s, task, ranks, d);
                 if number != 0 {
                     let looked = i * size + (d - first) + 1;
-                    found = standing::report(number, task.entry, d, found.count + looked as u32);
+                    found = octets::report(number, task.entry, d, found.count + looked as u32);
                     break 'search;
                 }
                 d += 1;
             }
             i += 1;
         }
-        found = standing::report(0, 0, 0, found.count + (n * size) as u32);
+        found = octets::report(0, 0, 0, found.count + (n * size) as u32);
     }
     found
 }

@@ -1,1 +1,2 @@
+-- What stands at the front of a lent slice.
 pub mod Front

@@ -7,7 +7,7 @@ use Rattle.controller.specs.declared.Shown.{Shown}
 use Rattle.controller.specs.State.{loadOf}
 use Rattle.controller.specs.Query.{queryOf}
 use Rattle.controller.specs.Write.{writeReport, writeBuffer}
-use Rattle.listing.specs.Listing.{listReport, listBuffer}
+use Rattle.listing_text.specs.Listing.{listReport, listBuffer}
 use Rattle.exports.specs.Exported.{overReport}
 use Rattle.packed_state.specs.State.{stateSize, stateOf, overState}
 

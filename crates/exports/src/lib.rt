@@ -41,7 +41,7 @@ pub extern "C" fn dergvost_screen(s: &[u8], out: &mut [u32]) -> u32
     if out.len() < 4 {
         return 255;
     }
-    let found = screening::screen::screen(s);
+    let found = screening::screen(s);
     put_report(found.report, out)
 }
 

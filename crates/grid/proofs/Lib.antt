@@ -1,3 +1,4 @@
+-- The laws of intervals, cells, images and successors.
 pub mod Numbers
 pub mod Edges
 pub mod Intervals

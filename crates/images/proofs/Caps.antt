@@ -4,7 +4,7 @@ use mathlib.Core.List.{List}
 use native.Mathlib.Omega.{arith}
 use Rattle.certificate.specs.Layout.{linksOf}
 use Rattle.certificate.specs.Facts.{Readable}
-use Rattle.images.specs.Ends.{at, WithinCaps}
+use Rattle.supply.specs.Supply.{at, WithinCaps}
 
 -- no queue within the caps exceeds 10,000
 pub queue-most : {s x : List ℕ} → Readable s → WithinCaps s x → (l : ℕ) → l < linksOf s → at x l ≤ 10000

@@ -14,7 +14,7 @@ use Rattle.network.specs.Image.{beside, lowCorner}
 use Rattle.network.specs.Sound.{Joined}
 use Rattle.screening.specs.Roads.{into}
 use Rattle.images.specs.Ends.{pushed}
-use Rattle.images.proofs.Least.{least-same}
+use Rattle.supply.proofs.LeastNumbers.{least-same}
 
 -- a link of another tail is not beside l, and neither is l
 other-tail : (N : Network) (l k : ℕ) → (N .tail k ≡ N .tail l → ⊥) → beside N l k ≡ false

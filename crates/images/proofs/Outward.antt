@@ -13,8 +13,8 @@ use Rattle.certificate.specs.Layout.{linksOf, turnsOf, fromOf}
 use Rattle.certificate.specs.Facts.{Readable}
 use Rattle.certificate.proofs.Loops.{Found, found}
 use Rattle.network.specs.Flow.{leastTo}
-use Rattle.images.specs.Ends.{FirstTurns}
-use Rattle.images.proofs.Least.{least-same, least-skip}
+use Rattle.supply.specs.Supply.{FirstTurns}
+use Rattle.supply.proofs.LeastNumbers.{least-same, least-skip}
 
 module _ (s first : List ℕ) (R : Readable s) (F : FirstTurns s first) where
   -- where the turns of link j begin

@@ -14,10 +14,11 @@ use Rattle.certificate.specs.Facts.{Readable}
 use Rattle.network.specs.Network.{Network, networkOf}
 use Rattle.network.specs.Flow.{leastTo, supply, sent, gross}
 use Rattle.network.specs.Image.{lowCorner, highCorner}
-use Rattle.images.specs.Ends.{at, FirstTurns, supplyAt, Supplies, sentBy, PassedOn, pushed, TwoLeast, Side, EndsBefore}
+use Rattle.supply.specs.Supply.{at, FirstTurns, supplyAt, Supplies, sentBy, TwoLeast}
+use Rattle.images.specs.Ends.{PassedOn, pushed, Side, EndsBefore}
 use Rattle.screening.specs.Roads.{into}
-use Rattle.images.proofs.Least.{least-same}
-use Rattle.images.proofs.TwoLeast.{sent-least}
+use Rattle.supply.proofs.LeastNumbers.{least-same}
+use Rattle.supply.proofs.TwoLeast.{sent-least}
 use Rattle.network.proofs.Sending.{least-base, sent-queue, sent-none}
 use Rattle.screening.proofs.Summing.{sum-flat, sum-alike}
 use Rattle.images.proofs.Outward.{begin-first, begin-last, begin-ascends, from-here, least-between}

@@ -7,10 +7,11 @@ ghost use lib.ListN.{length};
 ghost use Rattle.certificate.specs.Loops.{pick};
 ghost use Rattle.certificate.specs.Layout.{linksOf, turnsOf, shareOf};
 ghost use Rattle.screening.specs.Roads.{Roads};
-ghost use Rattle.images.specs.Ends.{at, FirstTurns, WithinCaps, limitBy, TwoLeast, sentBy, PassedOn, Side, EndsBefore};
-use crate::supply;
+ghost use Rattle.supply.specs.Supply.{at, FirstTurns, WithinCaps, TwoLeast, sentBy};
+ghost use Rattle.images.specs.Ends.{limitBy, PassedOn, Side, EndsBefore};
+use octets::numbers;
 use road_records::links;
-use screening::conditions;
+use road_records::signals;
 use turn_records::turns;
 
 pub struct Ends {
@@ -33,8 +34,8 @@ fn sent_by(near: &[usize; 32], far: &[usize; 32], two: supply::Two, most: usize,
     requires { ⌜ t < 32 ⌝ }
     ensures { λ r. ⌜ (r ≡ min (min (at (now (near .entry)) t) (pick (eqb (at (now (far .entry)) t) (two .least)) (two .next) (two .least))) most) × (r ≤ most) ⌝ }
 {
-    supply::smaller(
-        supply::smaller(near[t], supply::others_of(two, far[t])),
+    numbers::smaller(
+        numbers::smaller(near[t], supply::others_of(two, far[t])),
         most,
     )
 }
@@ -66,8 +67,8 @@ fn pass_on(
     let l = sender.link;
     let from = sender.from;
     let end = sender.end;
-    let most = supply::smaller(100 * x[l], sender.flow);
-    ends[l] = ends[l] - 100 * supply::smaller(own.least, most);
+    let most = numbers::smaller(100 * x[l], sender.flow);
+    ends[l] = ends[l] - 100 * numbers::smaller(own.least, most);
     for t in from..end {
         let to = turns::to_within(s, start, t);
         let more = turns::share_within(s, start, t) * sent_by(near, far, two, most, t);
@@ -93,7 +94,7 @@ fn send(
     requires { ⌜ Roads (now s) start (turnsOf (now s)) (linksOf (now s)) × FirstTurns (now s) (now first) × WithinCaps (now s) (now lower) × WithinCaps (now s) (now upper) × (l < linksOf (now s)) × Side (now s) (limitBy (now s) byte) (at (now lower)) (at (now upper)) (now first) l (now low) × Side (now s) (limitBy (now s) byte) (at (now upper)) (at (now lower)) (now first) l (now high) × (length (now lows) ≡ 32) × (length (now highs) ≡ 32) ⌝ }
     ensures { λ _. ⌜ Side (now (s .entry)) (limitBy (now (s .entry)) byte) (at (now (lower .entry))) (at (now (upper .entry))) (now (first .entry)) (l + 1) (now (low .exit)) × Side (now (s .entry)) (limitBy (now (s .entry)) byte) (at (now (upper .entry))) (at (now (lower .entry))) (now (first .entry)) (l + 1) (now (high .exit)) × (length (now (lows .exit)) ≡ 32) × (length (now (highs .exit)) ≡ 32) ⌝ }
 {
-    if !conditions::is_green(byte, l) {
+    if !signals::is_green(byte, l) {
         return;
     }
     let from = first[l];
@@ -116,14 +117,13 @@ fn send(
 pub fn ends_of(
     s: &[u8],
     start: usize,
-    turns: usize,
     links: usize,
     byte: usize,
     first: &[usize; 9],
     lower: &[usize; 8],
     upper: &[usize; 8],
 ) -> Ends
-    requires { ⌜ Roads (now s) start turns links × FirstTurns (now s) (now first) × WithinCaps (now s) (now lower) × WithinCaps (now s) (now upper) ⌝ }
+    requires { ⌜ Roads (now s) start (turnsOf (now s)) links × FirstTurns (now s) (now first) × WithinCaps (now s) (now lower) × WithinCaps (now s) (now upper) ⌝ }
     ensures { λ r. ⌜ EndsBefore (now (s .entry)) (limitBy (now (s .entry)) byte) (at (now (lower .entry))) (at (now (upper .entry))) (r .low) (r .high) ⌝ }
 {
     let mut lows = [0usize; 32];
@@ -155,5 +155,5 @@ pub fn end_of(cap: usize, before: usize, arrivals: usize) -> usize
     requires { ⌜ (before ≤ 10000000000) × (arrivals ≤ 10000000000) ⌝ }
     ensures { λ r. ⌜ r ≡ min cap (before + arrivals) ⌝ }
 {
-    supply::smaller(cap, before + arrivals)
+    numbers::smaller(cap, before + arrivals)
 }

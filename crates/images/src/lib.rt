@@ -1,3 +1,2 @@
 // The image of a closed box of queues.
 pub mod ends;
-pub mod supply;

@@ -1,2 +1,3 @@
+-- What the call that lists answers, from its parts.
 pub mod Sending
 pub mod Listings

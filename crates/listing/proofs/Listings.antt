@@ -11,8 +11,8 @@ use Rattle.network.proofs.Screening.{screening-is-plain}
 use Rattle.judging.specs.Verdict.{verdictOf}
 use Rattle.judging.proofs.Verdicts.{accepted-is-plain}
 use Rattle.listing.specs.Entries.{EntriesAt}
-use Rattle.listing.specs.Listing.{acceptedText, listingOf, Sent}
-use Rattle.listing_lines.specs.Lines.{refusedLine}
+use Rattle.listing_text.specs.Listing.{acceptedText, listingOf, Sent}
+use Rattle.listing_text.specs.Lines.{refusedLine}
 use Rattle.listing.proofs.Sending.{text-accepted, text-refused, listed}
 
 module _ (s : List ℕ) (r : Report) (verdict : r ≡ verdictOf s) {buffer after : List ℕ} {answer : Report} where

@@ -10,8 +10,8 @@ use Rattle.certificate.specs.Checks.{result, refusal, need}
 use Rattle.certificate.specs.Layout.{entriesOf}
 use Rattle.judging.specs.Verdict.{verdictOf}
 use Rattle.text.specs.Place.{written, Put}
-use Rattle.listing_lines.specs.Lines.{countsLine, entryLines, acceptedLine, refusedLine}
-use Rattle.listing.specs.Listing.{acceptedText, textOf, listingOf, sendReport, sendBuffer, Sent}
+use Rattle.listing_text.specs.Lines.{countsLine, entryLines, acceptedLine, refusedLine}
+use Rattle.listing_text.specs.Listing.{acceptedText, textOf, listingOf, sendReport, sendBuffer, Sent}
 
 module _ {text buffer : List ℕ} {answer : Report} where
   -- a text longer than the buffer: 17, and the buffer as it was

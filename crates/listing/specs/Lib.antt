@@ -1,3 +1,2 @@
--- The text of a listing, and what the code goes by.
-pub mod Listing
+-- What the code that lists goes by.
 pub mod Entries

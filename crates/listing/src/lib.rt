@@ -1,10 +1,9 @@
 // The listing of a certificate as text.
-ghost use Rattle.listing.specs.Listing.{listingOf, Sent};
+ghost use Rattle.listing_text.specs.Listing.{listingOf, Sent};
 
 mod render;
 
 use certificate::Report;
-use screening::screen;
 
 // Renders the listing of s into the front of the lent buffer: 0 with A the length of the text, or 17 and the buffer as it was.
 pub fn list(s: &[u8], buffer: &mut [u8]) -> Report
@@ -14,7 +13,7 @@ pub fn list(s: &[u8], buffer: &mut [u8]) -> Report
     if report.number != 0 {
         return render::render_refused(report, buffer);
     }
-    let found = screen::screen(s);
+    let found = screening::screen(s);
     let layout = found.layout;
     render::render_accepted(s, layout.entries_start, report, buffer)
 }

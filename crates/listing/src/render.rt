@@ -2,28 +2,14 @@
 ghost use mathlib.Core.Path.{_≡_};
 ghost use Prim.Native.Nat.{_≤_};
 ghost use lib.ListN.{length};
-ghost use Rattle.certificate.specs.Checks.{result};
 ghost use Rattle.text.specs.Place.{Room, Put};
 ghost use Rattle.listing.specs.Entries.{EntriesAt};
-ghost use Rattle.listing_lines.specs.Lines.{refusedLine};
-ghost use Rattle.listing.specs.Listing.{acceptedText, textOf, Sent};
+ghost use Rattle.listing_text.specs.Lines.{refusedLine};
+ghost use Rattle.listing_text.specs.Listing.{acceptedText, textOf, Sent};
 use certificate::Report;
 use listing_lines::fields;
 use listing_lines::lengths;
 use listing_lines::lines;
-
-// The answer for a text of this length.
-fn sent(size: usize) -> Report
-    requires { ⌜ size ≤ 1000000 ⌝ }
-    ensures { λ r. ⌜ r ≡ result 0 size 0 0 ⌝ }
-{
-    Report {
-        number: 0,
-        a: size as u32,
-        b: 0,
-        count: 0,
-    }
-}
 
 // The text of an accepted certificate: how long it is.
 fn text_length(s: &[u8], start: usize, report: Report) -> usize
@@ -55,7 +41,7 @@ pub fn render_accepted(s: &[u8], start: usize, report: Report, buffer: &mut [u8]
         return octets::refuse(17, 0);
     }
     put_text(buffer, s, start, report);
-    sent(size)
+    octets::report(0, size, 0, 0)
 }
 
 // The listing of a refused certificate.
@@ -67,5 +53,5 @@ pub fn render_refused(report: Report, buffer: &mut [u8]) -> Report
         return octets::refuse(17, 0);
     }
     lines::put_refused(buffer, 0, report);
-    sent(size)
+    octets::report(0, size, 0, 0)
 }

@@ -1,1 +1,2 @@
+-- The lines of a listing, from their parts.
 pub mod LineParts

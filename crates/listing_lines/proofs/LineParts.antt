@@ -8,9 +8,9 @@ use lib.ListN.{length, length-append}
 use Rattle.certificate.proofs.Ascending.{grows}
 use Rattle.certificate.specs.declared.Report.{Report}
 use Rattle.certificate.specs.Layout.{linksOf, turnsOf, signalsOf, modesOf, boxesOf, entriesOf}
-use Rattle.text.specs.Text.{decimal, space, lineFeed, linksWord, turnsWord, signalsWord, modesWord, arrivalsWord, entriesWord, acceptedWord, refusedWord}
+use Rattle.listing_text.specs.Text.{decimal, space, lineFeed, linksWord, turnsWord, signalsWord, modesWord, arrivalsWord, entriesWord, acceptedWord, refusedWord}
 use Rattle.text.specs.NumberLines.{numbersAfter, numbersLine}
-use Rattle.listing_lines.specs.Lines.{countsLine, entryLine, entryLines, acceptedLine, refusedLine}
+use Rattle.listing_text.specs.Lines.{countsLine, entryLine, entryLines, acceptedLine, refusedLine}
 use Rattle.listing_lines.specs.Fields.{entryNumbers}
 
 pub entry-is : (s : List ℕ) (e : ℕ) → entryLine s e ≡ numbersLine (entryNumbers s e)

@@ -1,3 +1,2 @@
--- The lines of a listing.
+-- The numbers of an entry's line, as the code has them.
 pub mod Fields
-pub mod Lines

@@ -4,8 +4,8 @@ ghost use Prim.Native.Nat.{_+_, _*_, _<_, _≤_};
 ghost use lib.ListN.{length};
 ghost use Rattle.certificate.specs.Octets.{byteAt};
 ghost use Rattle.certificate.specs.Layout.{entriesStart};
-ghost use Rattle.text.specs.Text.{decimal};
-ghost use Rattle.listing_lines.specs.Lines.{countsLine, entryLine, entryLines, acceptedLine, refusedLine};
+ghost use Rattle.listing_text.specs.Text.{decimal};
+ghost use Rattle.listing_text.specs.Lines.{countsLine, entryLine, entryLines, acceptedLine, refusedLine};
 use crate::fields;
 use certificate::Report;
 

@@ -1,3 +1,4 @@
+-- Tests by cases, copying, tables filled entry by entry, and products that fit.
 pub mod Cases
 pub mod Copying
 pub mod FilledTables

@@ -3,24 +3,22 @@ ghost use mathlib.Core.Path.{_≡_};
 ghost use Prim.Native.Nat.{_+_, _<_, _≤_};
 ghost use lib.ListN.{length};
 ghost use Rattle.certificate.specs.Octets.{byteAt, u16At};
-ghost use Rattle.certificate.specs.Checks.{refusal, fine, need, orElse, marked, opened};
+ghost use Rattle.certificate.specs.Checks.{result, refusal, fine, need, orElse, marked, opened};
 
 pub mod filling;
-pub mod limits;
+pub mod numbers;
 
 use certificate::Report;
-
-fn wide(x: u8) -> usize
-    ensures { λ r. ⌜ (r ≡ x) × (r < 256) ⌝ }
-{
-    x as usize
-}
 
 // The byte at an offset, 0 past the end.
 pub fn byte_at(s: &[u8], at: usize) -> usize
     ensures { λ r. ⌜ (r ≡ byteAt (now (s .entry)) at) × (r < 256) ⌝ }
 {
-    if at < s.len() { wide(s[at]) } else { 0 }
+    if at < s.len() {
+        numbers::wide(s[at])
+    } else {
+        0
+    }
 }
 
 // The two-byte number at an offset, high byte first.
@@ -36,7 +34,7 @@ pub fn byte_within(s: &[u8], at: usize) -> usize
     requires { ⌜ at < length (now s) ⌝ }
     ensures { λ r. ⌜ (r ≡ byteAt (now (s .entry)) at) × (r < 256) ⌝ }
 {
-    wide(s[at])
+    numbers::wide(s[at])
 }
 
 pub fn u16_within(s: &[u8], at: usize) -> usize
@@ -44,6 +42,19 @@ pub fn u16_within(s: &[u8], at: usize) -> usize
     ensures { λ r. ⌜ (r ≡ u16At (now (s .entry)) at) × (r < 65536) ⌝ }
 {
     byte_within(s, at) * 256 + byte_within(s, at + 1)
+}
+
+// A result: number, places A and B, count.
+pub fn report(number: u8, a: usize, b: usize, count: u32) -> Report
+    requires { ⌜ (a ≤ 1000000) × (b ≤ 1000000) ⌝ }
+    ensures { λ r. ⌜ r ≡ result number a b count ⌝ }
+{
+    Report {
+        number,
+        a: a as u32,
+        b: b as u32,
+        count,
+    }
 }
 
 pub fn accept() -> Report

@@ -6,7 +6,7 @@ use native.Mathlib.Nat.{mod-eq-of-lt, div-eq-of-lt, mul-add-mod-self-right, mul-
 use native.Mathlib.Omega.{arith}
 use borrow.Author.Tests.{lt-ltb, le-ltb}
 use Rattle.certificate.specs.Layout.{modesOf, entriesOf, cellsOf, rankOf}
-use Rattle.cell_tables.specs.Tables.{Holds}
+use Rattle.octets.specs.Tables.{Holds}
 use Rattle.judging.specs.Lookup.{entryFor, isListed}
 use Rattle.rank_tables.specs.Index.{rankAt, RanksOf}
 

@@ -5,6 +5,7 @@ ghost use Rattle.certificate.specs.Layout.{entriesOf, cellsOf, entriesStart};
 ghost use Rattle.judging.specs.Lookup.{entryFor};
 ghost use Rattle.rank_tables.specs.Index.{entryFrom, IsIndex, CellsAscend, CellFrom};
 use entry_records::entries;
+use octets::numbers;
 
 // The first entry at or above cell d, by bisection; the number of entries where there is none.
 fn first_at(s: &[u8], start: usize, entries: usize, d: usize) -> usize
@@ -49,12 +50,6 @@ pub fn find_entry(s: &[u8], start: usize, entries: usize, cell: usize, mode: usi
     among(s, start, entries, first, end, mode)
 }
 
-fn wide(x: u16) -> usize
-    ensures { λ r. ⌜ r ≡ x ⌝ }
-{
-    x as usize
-}
-
 // The same by the index: the entries of a cell stand one after another.
 pub fn lookup(
     s: &[u8],
@@ -67,7 +62,7 @@ pub fn lookup(
     requires { ⌜ (start ≤ 100000) × (start ≡ entriesStart (now s)) × (entries ≤ 4096) × (entries ≡ entriesOf (now s)) × CellsAscend (now s) × IsIndex (now s) (now index) × (d < 4096) × (d < cellsOf (now s)) ⌝ }
     ensures { λ r. ⌜ (r ≡ entryFor (now (s .entry)) d m) × (r ≤ entries) ⌝ }
 {
-    let end = wide(index[d + 1]);
-    let first = wide(index[d]);
+    let end = numbers::wide_pair(index[d + 1]);
+    let first = numbers::wide_pair(index[d]);
     among(s, start, entries, first, end, m)
 }

@@ -1,1 +1,2 @@
+-- The stages of reading, put together.
 pub mod Stages

@@ -2,7 +2,7 @@
 ghost use mathlib.Core.Path.{_≡_};
 ghost use Rattle.certificate.specs.Records.{headerOk, headerFault};
 use certificate::Report;
-use octets::limits;
+use certificate::limits;
 
 fn counts_ok(s: &[u8]) -> bool
     ensures { λ r. ⌜ r ≡ headerOk (now (s .entry)) ⌝ }

@@ -6,7 +6,7 @@ ghost use Rattle.certificate.specs.Checks.{firstBad};
 ghost use Rattle.certificate.specs.Layout.{linkAt, linkSize, tailOf, headOf, capOf, flowOf, safeOf, goalOf};
 ghost use Rattle.certificate.specs.Records.{linkOk, linkFault};
 use certificate::Report;
-use octets::limits;
+use certificate::limits;
 
 pub fn tail_of(s: &[u8], l: usize) -> usize
     requires { ⌜ l < 256 ⌝ }

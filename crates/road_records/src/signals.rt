@@ -1,11 +1,12 @@
 // SG: one record a signal, the byte of its green links.
 ghost use mathlib.Core.Path.{_≡_};
 ghost use Prim.Native.Nat.{_<_, _≤_, _^_};
+ghost use Rattle.certificate.specs.Octets.{bitOf};
 ghost use Rattle.certificate.specs.Checks.{firstBad};
 ghost use Rattle.certificate.specs.Layout.{linksOf, signalsStart, greenByteOf};
 ghost use Rattle.certificate.specs.Records.{signalOk, signalFault};
 use certificate::Report;
-use octets::limits;
+use certificate::limits;
 
 pub fn green_byte_of(s: &[u8], start: usize, g: usize) -> usize
     requires { ⌜ (g < 256) × (start ≤ 100000) × (start ≡ signalsStart (now s)) ⌝ }
@@ -14,8 +15,16 @@ pub fn green_byte_of(s: &[u8], start: usize, g: usize) -> usize
     octets::byte_at(s, start + limits::SIGNAL_SIZE * g + 2)
 }
 
+// Whether link l is green, by a signal's byte.
+pub fn is_green(byte: usize, l: usize) -> bool
+    requires { ⌜ l < 8 ⌝ }
+    ensures { λ r. ⌜ r ≡ bitOf byte l ⌝ }
+{
+    (byte >> l) % 2 == 1
+}
+
 // 2 to the n.
-pub fn power(n: usize) -> usize
+fn power(n: usize) -> usize
     requires { ⌜ n ≤ 8 ⌝ }
     ensures { λ r. ⌜ r ≡ 2 ^ n ⌝ }
 {

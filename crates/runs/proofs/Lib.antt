@@ -1,3 +1,4 @@
+-- From fractions and steps to the run claim.
 pub mod Fractions
 pub mod Cells
 pub mod Lookup

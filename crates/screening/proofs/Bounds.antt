@@ -13,6 +13,9 @@ module _ {s : List ℕ} {start turns links : ℕ} (R : Roads s start turns links
   pub roads-own : Roads s start (turnsOf s) (linksOf s)
   roads-own = record { readable = R .readable; start-is = R .start-is; start-most = R .start-most; turns-is = refl; links-is = refl }
 
+  pub roads-links : Roads s start turns (linksOf s)
+  roads-links = record { readable = R .readable; start-is = R .start-is; start-most = R .start-most; turns-is = R .turns-is; links-is = refl }
+
   pub turns-most : turns ≤ 32
   turns-most = omega (arith, R .readable .header)
 

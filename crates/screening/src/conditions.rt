@@ -6,7 +6,7 @@ ghost use lib.ListN.{length, getD};
 ghost use Rattle.certificate.specs.Octets.{bitOf};
 ghost use Rattle.certificate.specs.Loops.{pick};
 ghost use Rattle.certificate.specs.Checks.{result, fine, need};
-ghost use Rattle.certificate.specs.Layout.{signalsOf, capOf, flowOf, turnsStart, turnAt, turnSize, fromOf, toOf, shareOf, pullOf, signalsStart, greenByteOf};
+ghost use Rattle.certificate.specs.Layout.{linksOf, signalsOf, capOf, flowOf, turnsStart, turnAt, turnSize, fromOf, toOf, shareOf, pullOf, signalsStart, greenByteOf};
 ghost use Rattle.network.specs.Network.{networkOf};
 ghost use Rattle.network.specs.Conditions.{pullSum, signalPullsFault, pullsFault, roomOk, roomFault, roomsFault};
 ghost use Rattle.screening.specs.Roads.{Roads};
@@ -15,20 +15,12 @@ use road_records::links;
 use road_records::signals;
 use turn_records::turns;
 
-// Whether link l is green.
-pub fn is_green(byte: usize, l: usize) -> bool
-    requires { ⌜ l < 8 ⌝ }
-    ensures { λ r. ⌜ r ≡ bitOf byte l ⌝ }
-{
-    (byte >> l) % 2 == 1
-}
-
 // Whether turn t leads from a green link.
 fn from_green(s: &[u8], start: usize, byte: usize, t: usize) -> bool
     requires { ⌜ (t < 256) × (start ≤ 100000) × (start ≡ turnsStart (now s)) × (fromOf (now s) t < 8) × (turnAt (now s) t + turnSize ≤ length (now s)) ⌝ }
     ensures { λ r. ⌜ r ≡ bitOf byte (fromOf (now (s .entry)) t) ⌝ }
 {
-    is_green(byte, turns::from_within(s, start, t))
+    signals::is_green(byte, turns::from_within(s, start, t))
 }
 
 // Share × pull of turn t where its from link is green, else 0.
@@ -43,9 +35,9 @@ fn green_pull(s: &[u8], start: usize, byte: usize, t: usize) -> usize
 }
 
 // The pull sum of each link, by one pass over the turns.
-fn pull_sums(s: &[u8], start: usize, turns: usize, links: usize, byte: usize) -> [usize; 8]
-    requires { ⌜ Roads (now s) start turns links ⌝ }
-    ensures { λ r. ⌜ ((l : ℕ) → l < links → getD r l 0 ≡ pullSum (networkOf (now (s .entry))) (bitOf byte) l) ⌝ }
+fn pull_sums(s: &[u8], start: usize, turns: usize, byte: usize) -> [usize; 8]
+    requires { ⌜ Roads (now s) start turns (linksOf (now s)) ⌝ }
+    ensures { λ r. ⌜ ((l : ℕ) → l < linksOf (now (s .entry)) → getD r l 0 ≡ pullSum (networkOf (now (s .entry))) (bitOf byte) l) ⌝ }
 {
     let mut sums = [0usize; 8];
     for t in 0..turns {
@@ -64,12 +56,7 @@ fn check_pull(sum: usize, g: usize, l: usize) -> Report
     if sum <= 10000 {
         return octets::accept();
     }
-    Report {
-        number: 10,
-        a: g as u32,
-        b: l as u32,
-        count: 0,
-    }
+    octets::report(10, g, l, 0)
 }
 
 // 10 of signal g: links ascending.
@@ -77,7 +64,7 @@ fn check_signal(s: &[u8], start: usize, turns: usize, links: usize, byte: usize,
     requires { ⌜ Roads (now s) start turns links × (g < 256) × (byte ≡ greenByteOf (now s) g) ⌝ }
     ensures { λ r. ⌜ r ≡ signalPullsFault (now (s .entry)) g ⌝ }
 {
-    let sums = pull_sums(s, start, turns, links, byte);
+    let sums = pull_sums(s, start, turns, byte);
     for l in 0..links {
         let f = check_pull(sums[l], g, l);
         if f.number != 0 {
@@ -130,8 +117,8 @@ fn check_room(s: &[u8], start: usize, t: usize) -> Report
 }
 
 // Condition 11: turns ascending.
-pub fn check_rooms(s: &[u8], start: usize, turns: usize, links: usize) -> Report
-    requires { ⌜ Roads (now s) start turns links ⌝ }
+pub fn check_rooms(s: &[u8], start: usize, turns: usize) -> Report
+    requires { ⌜ Roads (now s) start turns (linksOf (now s)) ⌝ }
     ensures { λ r. ⌜ r ≡ roomsFault (now (s .entry)) ⌝ }
 {
     for t in 0..turns {

@@ -1,3 +1,4 @@
+-- Ranges of intervals, and the runs of cells in them.
 pub mod Moves
 pub mod Ranging
 pub mod Jumps

@@ -17,7 +17,7 @@ use Rattle.certificate.proofs.Loops.{every-each, each-every}
 use Rattle.grid.specs.Intervals.{isInner, lowerEdge, upperEdge}
 use Rattle.grid.specs.Cells.{intervalIn}
 use Rattle.grid.specs.Successors.{imageLow, imageHigh, meets, isSuccessor}
-use Rattle.cell_tables.specs.Tables.{Holds}
+use Rattle.octets.specs.Tables.{Holds}
 use Rattle.successors.specs.Ranges.{lowMeets, IsFirst, IsLast, inRange, inRanges, Bounded, RangesOf}
 use Rattle.grid.proofs.Numbers.{is-choice}
 use Rattle.grid.proofs.Edges.{upper-inner, upper-last, upper-most, cuts-ascend}

@@ -4,7 +4,7 @@ ghost use mathlib.Core.Path.{_≡_};
 ghost use Prim.Native.Nat.{_+_, _*_, _<_, _≤_};
 ghost use Rattle.certificate.specs.Layout.{linksOf, cellsOf};
 ghost use Rattle.certificate.specs.Facts.{Readable};
-ghost use Rattle.cell_tables.specs.Tables.{GridOf, CountsOf};
+ghost use Rattle.cell_tables.specs.Tables.{CountsOf, WeightsOf};
 ghost use Rattle.successors.specs.Ranges.{Bounded, FullAfter, Starts, Sought, runSize};
 
 // The cell n intervals of that weight past base.
@@ -42,14 +42,13 @@ pub fn run_link<'a>(
 // Where the first run starts, and the number of cells where there is none: some range is empty.
 pub fn first_run<'a>(
     s: &[u8],
-    counts: &[usize; 8],
     weights: &[usize; 8],
     first: &'a [usize; 8],
     last: &'a [usize; 8],
     links: usize,
     cells: usize,
 ) -> usize
-    requires { ⌜ GridOf (now s) (now counts) (now weights) links × Bounded (now s) (now first) (now last) × (cells ≡ cellsOf (now s)) ⌝ }
+    requires { ⌜ Readable (now s) × WeightsOf (now s) (now weights) × (links ≡ linksOf (now s)) × Bounded (now s) (now first) (now last) × (cells ≡ cellsOf (now s)) ⌝ }
     ensures { λ r. ⌜ Sought (now (s .entry)) (now (first .entry)) (now (last .entry)) 0 r × (r < cellsOf (now (s .entry)) → Starts (now (s .entry)) (now (first .entry)) (now (last .entry)) 0 r) ⌝ }
 {
     let mut base = 0;
@@ -66,14 +65,12 @@ pub fn first_run<'a>(
 // How many cells a run has; 0 where the range of the run link is empty.
 pub fn run_size<'a>(
     s: &[u8],
-    counts: &[usize; 8],
     weights: &[usize; 8],
     first: &'a [usize; 8],
     last: &'a [usize; 8],
-    links: usize,
     k: usize,
 ) -> usize
-    requires { ⌜ GridOf (now s) (now counts) (now weights) links × Bounded (now s) (now first) (now last) × (k < linksOf (now s)) ⌝ }
+    requires { ⌜ Readable (now s) × WeightsOf (now s) (now weights) × Bounded (now s) (now first) (now last) × (k < linksOf (now s)) ⌝ }
     ensures { λ r. ⌜ (r ≡ runSize (now (s .entry)) (now (first .entry)) (now (last .entry)) k) × (r ≤ 4096) ⌝ }
 {
     if last[k] < first[k] {

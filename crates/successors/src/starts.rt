@@ -4,7 +4,8 @@ ghost use mathlib.Core.Path.{_≡_};
 ghost use Prim.Native.Nat.{_<_, _≤_};
 ghost use lib.ListN.{length};
 ghost use Rattle.certificate.specs.Layout.{cellsOf};
-ghost use Rattle.cell_tables.specs.Tables.{GridOf, Holds};
+ghost use Rattle.cell_tables.specs.Tables.{GridOf};
+ghost use Rattle.octets.specs.Tables.{Holds};
 ghost use Rattle.successors.specs.Ranges.{Bounded, FullAfter, RunsOf, Small, repeated, runSize};
 use crate::seek;
 
@@ -41,7 +42,7 @@ fn fill_starts<'a>(
     requires { ⌜ GridOf (now s) (now counts) (now weights) links × Bounded (now s) (now first) (now last) × (cells ≡ cellsOf (now s)) × FullAfter (now s) (now first) (now last) k × (length (now starts) ≡ 4096) ⌝ }
     ensures { λ r. ⌜ (length (now (starts .exit)) ≡ 4096) × RunsOf (now (s .entry)) (now (first .entry)) (now (last .entry)) (now (starts .exit)) r (runSize (now (s .entry)) (now (first .entry)) (now (last .entry)) k) ⌝ }
 {
-    let base = seek::first_run(s, counts, weights, first, last, links, cells);
+    let base = seek::first_run(s, weights, first, last, links, cells);
     if base == cells {
         return 0;
     }
@@ -73,6 +74,6 @@ pub fn runs_of<'a, 'b>(
 {
     let k = seek::run_link(s, counts, first, last, links);
     let count = fill_starts(s, counts, weights, first, last, links, cells, k, starts);
-    let size = seek::run_size(s, counts, weights, first, last, links, k);
+    let size = seek::run_size(s, weights, first, last, k);
     Runs { count, size }
 }

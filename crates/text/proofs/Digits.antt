@@ -8,7 +8,7 @@ use native.Mathlib.Nat.{pow-suc}
 use borrow.Author.Tests.{ltb-true, ltb-false, lt-ltb, le-ltb}
 use lib.Dec.{ltb}
 use lib.ListN.{length, set, length-append}
-use Rattle.text.specs.Text.{digits, decimal}
+use Rattle.listing_text.specs.Text.{digits, decimal}
 use Rattle.text.specs.Place.{written}
 use Rattle.text.proofs.Placing.{written-one, written-back}
 

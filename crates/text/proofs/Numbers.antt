@@ -9,7 +9,7 @@ use borrow.Author.Tests.{ltb-true, ltb-false}
 use lib.Dec.{ltb}
 use lib.ListN.{length, drop, getD, length-append, length-drop, drop-of-length-le}
 use lib.Seq.{drop-cons}
-use Rattle.text.specs.Text.{decimal}
+use Rattle.listing_text.specs.Text.{decimal}
 use Rattle.text.specs.NumberLines.{numbersAfter, numbersLine}
 
 -- what stands after a number, by whether another follows

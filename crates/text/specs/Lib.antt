@@ -1,4 +1,3 @@
--- Numbers and words as text, and where it is written.
+-- A line of numbers as the code writes it, and where it is written.
 pub mod Place
-pub mod Text
 pub mod NumberLines

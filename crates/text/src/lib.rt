@@ -4,7 +4,7 @@ ghost use mathlib.Core.List.{[], _∷_, _++_};
 ghost use mathlib.Core.Bool.{cond};
 ghost use Prim.Native.Nat.{_+_, _*_, _<_, _≤_};
 ghost use lib.ListN.{length};
-ghost use Rattle.text.specs.Text.{decimal};
+ghost use Rattle.listing_text.specs.Text.{decimal};
 ghost use Rattle.text.specs.NumberLines.{numbersLine};
 ghost use Rattle.text.specs.Place.{Room, Put};
 
@@ -42,7 +42,7 @@ fn digit(n: u32) -> u8
 }
 
 // The digits of n, last digit first.
-pub fn put_decimal(buffer: &mut [u8], at: usize, n: u32) -> usize
+fn put_decimal(buffer: &mut [u8], at: usize, n: u32) -> usize
     requires { ⌜ Room (now buffer) at (decimal n) ⌝ }
     ensures { λ r. ⌜ Put (now (buffer .entry)) at (decimal n) (now (buffer .exit)) r ⌝ }
 {
@@ -59,7 +59,7 @@ pub fn put_decimal(buffer: &mut [u8], at: usize, n: u32) -> usize
 }
 
 // A number, and the byte that stands after it.
-pub fn put_number(buffer: &mut [u8], at: usize, n: u32, after: u8) -> usize
+fn put_number(buffer: &mut [u8], at: usize, n: u32, after: u8) -> usize
     requires { ⌜ Room (now buffer) at (decimal n ++ (after ∷ [])) ⌝ }
     ensures { λ r. ⌜ Put (now (buffer .entry)) at (decimal n ++ (after ∷ [])) (now (buffer .exit)) r ⌝ }
 {

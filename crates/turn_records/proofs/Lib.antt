@@ -1,1 +1,2 @@
+-- Totals of shares, one turn after another.
 pub mod TurnTotals

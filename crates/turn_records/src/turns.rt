@@ -9,7 +9,7 @@ ghost use Rattle.turn_records.specs.Carried.{SharesBefore, turnFits};
 ghost use Rattle.certificate.specs.Records.{turnAscends, shareTotal, turnOk, turnFault};
 use crate::pairs;
 use certificate::Report;
-use octets::limits;
+use certificate::limits;
 use road_records::links;
 
 pub fn from_of(s: &[u8], start: usize, t: usize) -> usize
@@ -26,7 +26,7 @@ pub fn to_of(s: &[u8], start: usize, t: usize) -> usize
     octets::byte_at(s, start + limits::TURN_SIZE * t + 3)
 }
 
-pub fn share_of(s: &[u8], start: usize, t: usize) -> usize
+fn share_of(s: &[u8], start: usize, t: usize) -> usize
     requires { ⌜ (t < 256) × (start ≤ 100000) × (start ≡ turnsStart (now s)) ⌝ }
     ensures { λ r. ⌜ (r ≡ shareOf (now (s .entry)) t) × (r < 256) ⌝ }
 {

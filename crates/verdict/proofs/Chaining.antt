@@ -14,7 +14,8 @@ use Rattle.octets.proofs.Cases.{first, second}
 use Rattle.certificate.proofs.Loops.{from-turn, from-end}
 use borrow.Author.Tests.{eq-eqb, ne-eqb}
 use Rattle.judging.specs.Judging.{standingFault, cellTurn, boxTurn, entryTurn, accepted, judgingFrom}
-use Rattle.entry_search.specs.Tables.{boxesFrom, entryAlone}
+use Rattle.entry_search.specs.Search.{boxesFrom}
+use Rattle.verdict.specs.Entries.{entryAlone}
 
 -- a refusal is the answer; else what is next goes on from its count
 after : Report → (ℕ → Report) → Report

@@ -6,28 +6,25 @@ ghost use Rattle.certificate.specs.Layout.{entriesOf, boxesOf, cellsOf};
 ghost use Rattle.certificate.specs.Facts.{Readable};
 ghost use Rattle.reading.specs.Laid.{LaidOut};
 ghost use Rattle.network.specs.Laws.{Screened};
-ghost use Rattle.images.specs.Ends.{FirstTurns};
+ghost use Rattle.supply.specs.Supply.{FirstTurns};
 ghost use Rattle.cell_tables.specs.Tables.{GridOf, DigitsOf};
 ghost use Rattle.rank_tables.specs.Index.{RanksOf};
 ghost use Rattle.judging.specs.Judging.{judgingFrom};
-ghost use Rattle.entry_search.specs.Tables.{CapsOf, TablesOf, entryAlone};
+ghost use Rattle.entry_setup.specs.Tables.{CapsOf, TablesOf};
+ghost use Rattle.verdict.specs.Entries.{entryAlone};
 ghost use Rattle.judging.specs.Verdict.{verdictOf};
-
-mod amounts;
-mod entry;
-
 use cell_tables::digits as cells;
 use cell_tables::tables;
 use certificate::Report;
 use entry_records::entries;
-use entry_search::LinkTables;
 use entry_search::search;
-use entry_search::standing;
-use images::supply;
+use entry_setup::LinkTables;
+use entry_setup::amounts;
+use entry_setup::entry;
+use entry_setup::standing;
 use rank_tables::index;
 use rank_tables::ranks;
 use reading::Layout;
-use screening::screen;
 
 // One entry judged alone: its standing, then its successors.
 fn judge_entry(
@@ -92,7 +89,7 @@ fn judge_entries(
         }
         count = r.count;
     }
-    standing::report(0, 0, 0, count)
+    octets::report(0, 0, 0, count)
 }
 
 // The tables of the links.
@@ -158,7 +155,7 @@ fn judge_screened(s: &[u8], layout: Layout) -> Report
 pub fn judge(s: &[u8]) -> Report
     ensures { λ r. ⌜ (r ≡ verdictOf (now (s .entry))) × (r .count ≤ entriesOf (now (s .entry)) * boxesOf (now (s .entry)) * cellsOf (now (s .entry))) ⌝ }
 {
-    let found = screen::screen(s);
+    let found = screening::screen(s);
     let f = found.report;
     if f.number != 0 {
         return f;

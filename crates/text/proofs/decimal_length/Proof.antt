@@ -3,7 +3,7 @@ use mathlib.Core.Path.{_≡_}
 use Prim.Native.Nat.{_+_, _<_, _^_}
 use native.Mathlib.Omega.{arith}
 use lib.ListN.{length}
-use Rattle.text.specs.Text.{decimal}
+use Rattle.listing_text.specs.Text.{decimal}
 use Rattle.text.proofs.Digits.{length-one, length-step, decimal-most}
 use Rattle.text.proofs.decimal_length.Statement.{statement}
 use Rattle.text.proofs.decimal_length.Tie as tie

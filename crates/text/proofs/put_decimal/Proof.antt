@@ -4,7 +4,7 @@ use Prim.Native.Nat.{_+_, _<_, _/_, _^_}
 use native.Mathlib.Omega.{arith}
 use borrow.Author.Needs.{needs}
 use lib.ListN.{length, length-set}
-use Rattle.text.specs.Text.{decimal}
+use Rattle.listing_text.specs.Text.{decimal}
 use Rattle.text.specs.Place.{written}
 use Rattle.text.proofs.Digits.{length-step, decimal-least, digit-stored, digit-last}
 use Rattle.text.proofs.put_decimal.Statement.{statement}

@@ -1,7 +1,7 @@
 -- `verdict::judge_entry` meets its contract. Assumes nothing.
 use native.Mathlib.Omega.{arith}
 use Rattle.verdict.proofs.Chaining.{not-standing, searched}
-use Rattle.entry_search.proofs.Ranged.{standing-count}
+use Rattle.entry_setup.proofs.EdgeLimits.{standing-count}
 use borrow.Author.Needs.{needs}
 use Rattle.verdict.proofs.judge_entry.Statement.{statement}
 use Rattle.verdict.proofs.judge_entry.Tie as tie

@@ -4,14 +4,14 @@ use borrow.Author.Needs.{needs}
 use Rattle.asking.proofs.proper.queue_at.Statement.{statement}
 use Rattle.asking.proofs.proper.queue_at.Tie as tie
 
-mul-wide : tie.Need-mul-wide
-mul-wide c = search needs
+mul-wide-quad : tie.Need-mul-wide-quad
+mul-wide-quad c = search needs
 
-shared-slice-read-wide : tie.Need-shared-slice-read-wide
-shared-slice-read-wide c = search needs
+shared-slice-read-wide-quad : tie.Need-shared-slice-read-wide-quad
+shared-slice-read-wide-quad c = search needs
 
-wide-requires : tie.Need-wide-requires
-wide-requires c κs = search needs
+wide-quad-requires : tie.Need-wide-quad-requires
+wide-quad-requires c κs = search needs
 
 returns : tie.Need-returns
 returns c = search needs
@@ -21,4 +21,4 @@ returns-2 c = search (List·getD-eq-default, needs)
 
 pub queue-at-spec : {M : Type 1} → statement M
 queue-at-spec =
-    tie.close (tie.spec mul-wide shared-slice-read-wide wide-requires returns returns-2)
+    tie.close (tie.spec mul-wide-quad shared-slice-read-wide-quad wide-quad-requires returns returns-2)

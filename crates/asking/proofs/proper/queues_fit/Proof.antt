@@ -14,8 +14,8 @@ Inv-loop s links queues scale unit l₀ l = fitFrom s queues scale links l ≡ f
 abbrev μ-loop : tie.MeasureT-loop
 μ-loop s links queues scale unit l₀ l = links - l
 
-wide-requires : tie.Need-wide-requires Inv-loop μ-loop
-wide-requires c κs = search needs
+wide-quad-requires : tie.Need-wide-quad-requires Inv-loop μ-loop
+wide-quad-requires c κs = search needs
 
 loop-holds : tie.Need-loop-holds Inv-loop μ-loop
 loop-holds c = refl
@@ -29,14 +29,14 @@ cap-of-requires c κs = search needs
 mul-if1 : tie.Need-mul-if1 Inv-loop μ-loop
 mul-if1 c =
     let a = c .before .before .before .before in
-    let p : c .cap-of .result * a .wide .result ≤ 65535 * 4294967295 = product-most 65535 4294967295 (omega (arith, c .cap-of .ensures .1)) (a .wide .ensures .1) in
+    let p : c .cap-of .result * a .wide-quad .result ≤ 65535 * 4294967295 = product-most 65535 4294967295 (omega (arith, c .cap-of .ensures .1)) (omega (arith, a .wide-quad .ensures .1)) in
     omega arith
 
 returns : tie.Need-returns Inv-loop μ-loop
 returns c =
     let l = c .before .before .before .before in
     let a = l .before .before .before .before .args in
-    fit-stop (a .s .now) (a .queues .now) (a .scale) (a .links) (l .loop .l) _ _ _ (c .before .before .queue-at .ensures) (c .before .cap-of .ensures .0) (l .before .wide .ensures .0) (omega arith) (l .loop .inv) (c .if1 .taken)
+    fit-stop (a .s .now) (a .queues .now) (a .scale) (a .links) (l .loop .l) _ _ _ (c .before .before .queue-at .ensures) (c .before .cap-of .ensures .0) (l .before .wide-quad .ensures .0) (omega arith) (l .loop .inv) (c .if1 .taken)
 
 add-l : tie.Need-add-l Inv-loop μ-loop
 add-l c = search needs
@@ -59,7 +59,7 @@ queues-fit-spec =
     (tie.spec
     Inv-loop
     μ-loop
-    wide-requires
+    wide-quad-requires
     loop-holds
     queue-at-requires
     cap-of-requires

@@ -32,11 +32,11 @@ next c =
     let a = start c in
     let s = a .args .s .now in
     let o = a .pre .1 (l .loop .l) (omega arith) in
-    let e = placed-here s (a .args .scale) (a .args .queues .now) (l .loop .l) _ _ _ _ o (l .before .wide .ensures) (c .before .before .wide2 .ensures) (c .interval-at .ensures) in
+    let e = placed-here s (a .args .scale) (a .args .queues .now) (l .loop .l) _ _ _ _ o (l .before .wide-quad .ensures .0) (c .before .before .wide-quad2 .ensures .0) (c .interval-at .ensures) in
     number-next s (a .pre .0) (a .args .scale) (a .args .queues .now) (a .pre .5) (l .loop .l) _ _ _ (omega arith) (l .loop .inv .1) (c .before .count-at .ensures .0 ∙ ap (countAt s) o) e
 
-wide-requires : tie.Need-wide-requires Inv-loop μ-loop
-wide-requires c κs = search needs
+wide-quad-requires : tie.Need-wide-quad-requires Inv-loop μ-loop
+wide-quad-requires c κs = search needs
 
 loop-holds : tie.Need-loop-holds Inv-loop μ-loop
 unfolding numberOf
@@ -48,14 +48,14 @@ mul-o c = omega arith
 element-copy-out-o : tie.Need-element-copy-out-o Inv-loop μ-loop
 element-copy-out-o c = omega arith
 
-mul-wide : tie.Need-mul-wide Inv-loop μ-loop
-mul-wide c = omega arith
+mul-wide-quad : tie.Need-mul-wide-quad Inv-loop μ-loop
+mul-wide-quad c = omega arith
 
-shared-slice-read-wide : tie.Need-shared-slice-read-wide Inv-loop μ-loop
-shared-slice-read-wide c = omega arith
+shared-slice-read-wide-quad : tie.Need-shared-slice-read-wide-quad Inv-loop μ-loop
+shared-slice-read-wide-quad c = omega arith
 
-wide-requires-2 : tie.Need-wide-requires-2 Inv-loop μ-loop
-wide-requires-2 c κs = search needs
+wide-quad-requires-2 : tie.Need-wide-quad-requires-2 Inv-loop μ-loop
+wide-quad-requires-2 c κs = search needs
 
 count-at-requires : tie.Need-count-at-requires Inv-loop μ-loop
 count-at-requires c κs =
@@ -69,7 +69,7 @@ interval-at-requires c κs =
     let l = c .before .before .before .before .before in
     let a = l .before .before .before .before in
     let s = a .args .s .now in
-    (omega (arith, a .pre .1 (l .loop .l) (omega arith), grid-place s (a .pre .0) (l .loop .l) (omega arith)), omega (arith, l .before .wide .ensures, a .pre .4))
+    (omega (arith, a .pre .1 (l .loop .l) (omega arith), grid-place s (a .pre .0) (l .loop .l) (omega arith)), omega (arith, l .before .wide-quad .ensures .0, a .pre .4))
 
 with-link-requires : tie.Need-with-link-requires Inv-loop μ-loop
 with-link-requires c κs = next c .1
@@ -97,13 +97,13 @@ cell-at-spec =
     (tie.spec
     Inv-loop
     μ-loop
-    wide-requires
+    wide-quad-requires
     loop-holds
     mul-o
     element-copy-out-o
-    mul-wide
-    shared-slice-read-wide
-    wide-requires-2
+    mul-wide-quad
+    shared-slice-read-wide-quad
+    wide-quad-requires-2
     count-at-requires
     interval-at-requires
     with-link-requires

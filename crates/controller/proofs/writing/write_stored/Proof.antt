@@ -51,19 +51,19 @@ part-put-end c = search needs
 put-requires : tie.Need-put-requires
 put-requires c κs = let l = fits (c .before .before .before .before .before) in search needs
 
-cast-t12 : tie.Need-cast-t12
-cast-t12 c = let l = fits (c .before .before .before .before .before .before .before .before) in search needs
+report-requires : tie.Need-report-requires
+report-requires c κs = let l = fits (c .before .before .before .before .before .before .before .before) in search needs
 
 same-length : tie.Need-same-length
 same-length c = search needs
 
 returns-3 : tie.Need-returns-3
 returns-3 c =
-    let s = c .before .before .before .before .before .before .before .before in
+    let s = c .before .before .before .before .before .before .before .before .before in
     let a = s .args in
     let state = storing (a .bytes .now) (a .n) in
     let w = wrote state (a .buffer .now) (a .start) (s .pre .1) (omega arith) in
-    (sym (w .0), put-back (a .buffer .now) (stored state) _ (a .start) (a .n) (c .before .before .put .ensures) ∙ sym (w .1))
+    (c .report .ensures ∙ sym (w .0), put-back (a .buffer .now) (stored state) _ (a .start) (a .n) (c .before .before .before .put .ensures) ∙ sym (w .1))
 
 pub write-stored-spec : {M : Type 1} → statement M
 write-stored-spec =
@@ -78,6 +78,6 @@ write-stored-spec =
     part-put-start
     part-put-end
     put-requires
-    cast-t12
+    report-requires
     same-length
     returns-3)

@@ -42,26 +42,26 @@ loop-holds : tie.Need-loop-holds Inv-loop2 μ-loop2 Inv-loop μ-loop Inv-search 
 loop-holds c = let r = c .before .before .box-runs .ensures in
     first-run (c .before .before .before .before .before .before .before .before .before .pre .2) (c .before .before .before .before .search-test .taken) (r .0) (r .1) (c .before .before .before .before .before .search .inv .0)
 
-mul-wide-cell : tie.Need-mul-wide-cell Inv-loop2 μ-loop2 Inv-loop μ-loop Inv-search μ-search
-mul-wide-cell c = let A = c .before .loop .inv in omega (arith, A .list .most, A .task-is .cells-is, A .task-is .cells-most, A .inside)
+mul-wide-pair : tie.Need-mul-wide-pair Inv-loop2 μ-loop2 Inv-loop μ-loop Inv-search μ-search
+mul-wide-pair c = let A = c .before .loop .inv in omega (arith, A .list .most, A .task-is .cells-is, A .task-is .cells-most, A .inside)
 
-slice-read-wide-cell :
-    tie.Need-slice-read-wide-cell Inv-loop2 μ-loop2 Inv-loop μ-loop Inv-search μ-search
-slice-read-wide-cell c = let A = c .before .before .loop .inv in omega (arith, A .sized, A .list .most, A .task-is .cells-is, A .task-is .cells-most, c .before .loop-test .taken)
+slice-read-wide-pair :
+    tie.Need-slice-read-wide-pair Inv-loop2 μ-loop2 Inv-loop μ-loop Inv-search μ-search
+slice-read-wide-pair c = let A = c .before .before .loop .inv in omega (arith, A .sized, A .list .most, A .task-is .cells-is, A .task-is .cells-most, c .before .loop-test .taken)
 
-wide-cell-requires :
-    tie.Need-wide-cell-requires Inv-loop2 μ-loop2 Inv-loop μ-loop Inv-search μ-search
-wide-cell-requires c κs = search needs
+wide-pair-requires :
+    tie.Need-wide-pair-requires Inv-loop2 μ-loop2 Inv-loop μ-loop Inv-search μ-search
+wide-pair-requires c κs = search needs
 
 add-end : tie.Need-add-end Inv-loop2 μ-loop2 Inv-loop μ-loop Inv-search μ-search
 add-end c = let A = c .before .before .before .loop .inv in
     let lt = c .before .before .loop-test .taken in
-    omega (arith, run-fits A lt _ (run-at A lt (c .wide-cell .ensures)), A .task-is .cells-most)
+    omega (arith, run-fits A lt _ (run-at A lt (c .wide-pair .ensures .0)), A .task-is .cells-most)
 
 loop2-holds : tie.Need-loop2-holds Inv-loop2 μ-loop2 Inv-loop μ-loop Inv-search μ-search
 loop2-holds c = let A = c .before .before .before .loop .inv in
     let lt = c .before .before .loop-test .taken in
-    let e = run-at A lt (c .wide-cell .ensures) in
+    let e = run-at A lt (c .wide-pair .ensures .0) in
     (run-begins A lt _ e, A, lt, e)
 
 successor-number-requires :
@@ -184,9 +184,9 @@ search-boxes-spec =
     search-holds
     box-runs-requires
     loop-holds
-    mul-wide-cell
-    slice-read-wide-cell
-    wide-cell-requires
+    mul-wide-pair
+    slice-read-wide-pair
+    wide-pair-requires
     add-end
     loop2-holds
     successor-number-requires

@@ -5,7 +5,8 @@ use native.Mathlib.Omega.{arith}
 use borrow.Author.Needs.{needs}
 use lib.ListN.{length}
 use Rattle.certificate.specs.Layout.{linksOf}
-use Rattle.images.specs.Ends.{at, limitBy, Side}
+use Rattle.supply.specs.Supply.{at}
+use Rattle.images.specs.Ends.{limitBy, Side}
 use Rattle.screening.proofs.Bounds.{roads-own, links-most}
 use Rattle.images.proofs.Caps.{queue-most}
 use Rattle.images.proofs.Sides.{side-none, both-sides}
@@ -13,12 +14,12 @@ use Rattle.images.proofs.ends.ends_of.Statement.{statement}
 use Rattle.images.proofs.ends.ends_of.Tie as tie
 
 abbrev Inv-loop : tie.InvT-loop
-Inv-loop s start turns links byte first lower upper lows₀ highs₀ low₀ high₀ l₀ lows highs low high l =
+Inv-loop s start links byte first lower upper lows₀ highs₀ low₀ high₀ l₀ lows highs low high l =
     (l ≤ links) × Side s (limitBy s byte) (at lower) (at upper) first l low × Side s (limitBy s byte) (at upper) (at lower) first l high
     × (length lows ≡ 32) × (length highs ≡ 32)
 
 abbrev μ-loop : tie.MeasureT-loop
-μ-loop s start turns links byte first lower upper lows₀ highs₀ low₀ high₀ l₀ lows highs low high l = links - l
+μ-loop s start links byte first lower upper lows₀ highs₀ low₀ high₀ l₀ lows highs low high l = links - l
 
 scale-requires : tie.Need-scale-requires Inv-loop μ-loop
 scale-requires c κs = let start = c .before .before in (links-most (start .pre .0), λ l h. queue-most (start .pre .0 .readable) (start .pre .2) l (omega arith), refl)

@@ -4,13 +4,13 @@ use mathlib.Core.Path.{refl}
 use native.Mathlib.Omega.{arith}
 use borrow.Author.Needs.{needs}
 use Rattle.certificate.specs.Layout.{linksOf, turnsOf, shareOf}
-use Rattle.images.specs.Ends.{at, sentBy}
+use Rattle.supply.specs.Supply.{at, sentBy}
 use Rattle.screening.proofs.Bounds.{turns-most, links-most, to-link, turn-whole}
 use Rattle.octets.proofs.Fitting.{product-most}
 use Rattle.screening.proofs.Picking.{times-same}
 use Rattle.images.proofs.PassingOn.{Passing, passing-none, passing-done}
 use Rattle.screening.proofs.Summing.{summed-more}
-use Rattle.images.proofs.TwoLeast.{sent-two}
+use Rattle.supply.proofs.TwoLeast.{sent-two}
 use Rattle.images.proofs.ends.pass_on.Statement.{statement}
 use Rattle.images.proofs.ends.pass_on.Tie as tie
 

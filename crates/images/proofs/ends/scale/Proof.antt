@@ -4,7 +4,7 @@ use mathlib.Core.Path.{refl}
 use native.Mathlib.Omega.{arith}
 use borrow.Author.Count.{below-none}
 use borrow.Author.Needs.{needs}
-use Rattle.images.specs.Ends.{at}
+use Rattle.supply.specs.Supply.{at}
 use Rattle.octets.proofs.FilledTables.{Filled, filled-more}
 use Rattle.images.proofs.ends.scale.Statement.{statement}
 use Rattle.images.proofs.ends.scale.Tie as tie

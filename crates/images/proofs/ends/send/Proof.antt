@@ -5,12 +5,13 @@ use native.Mathlib.Omega.{arith}
 use borrow.Author.Needs.{needs}
 use Rattle.certificate.specs.Layout.{turnsOf}
 use Rattle.octets.proofs.Cases.{not-yes, not-no}
-use Rattle.images.specs.Ends.{at, limitBy}
+use Rattle.supply.specs.Supply.{at}
+use Rattle.images.specs.Ends.{limitBy}
 use Rattle.screening.proofs.Bounds.{links-most, link-whole}
 use Rattle.images.proofs.Caps.{queue-most}
 use Rattle.images.proofs.Outward.{begin-most, begin-ascends}
 use Rattle.images.proofs.Sides.{side-red, side-green, side-whole}
-use Rattle.images.proofs.TwoLeast.{two-same}
+use Rattle.supply.proofs.TwoLeast.{two-same}
 use Rattle.images.proofs.ends.send.Statement.{statement}
 use Rattle.images.proofs.ends.send.Tie as tie
 

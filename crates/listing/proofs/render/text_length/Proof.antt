@@ -4,7 +4,7 @@ use Prim.Native.Nat.{ℕ}
 use native.Mathlib.Omega.{arith}
 use borrow.Author.Needs.{needs}
 use lib.ListN.{length}
-use Rattle.listing_lines.specs.Lines.{entryLines}
+use Rattle.listing_text.specs.Lines.{entryLines}
 use Rattle.listing.proofs.Sending.{length-accepted}
 use Rattle.listing.proofs.render.text_length.Statement.{statement}
 use Rattle.listing.proofs.render.text_length.Tie as tie

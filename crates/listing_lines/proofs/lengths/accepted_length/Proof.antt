@@ -1,7 +1,7 @@
 -- `listing_lines::lengths::accepted_length` meets its contract. Assumes nothing.
 use native.Mathlib.Omega.{arith}
 use lib.ListN.{length-append}
-use Rattle.listing_lines.specs.Lines.{acceptedLine}
+use Rattle.listing_text.specs.Lines.{acceptedLine}
 use borrow.Author.Needs.{needs}
 use Rattle.listing_lines.proofs.lengths.accepted_length.Statement.{statement}
 use Rattle.listing_lines.proofs.lengths.accepted_length.Tie as tie

@@ -3,7 +3,7 @@ use mathlib.Core.Path.{ap}
 use Prim.Native.Nat.{ℕ}
 use native.Mathlib.Omega.{arith}
 use lib.ListN.{length}
-use Rattle.text.specs.Text.{decimal}
+use Rattle.listing_text.specs.Text.{decimal}
 use Rattle.listing_lines.proofs.LineParts.{length-counts}
 use borrow.Author.Needs.{needs}
 use Rattle.listing_lines.proofs.lengths.counts_length.Statement.{statement}

@@ -1,5 +1,5 @@
 -- `listing_lines::lines::put_accepted` meets its contract. Assumes nothing.
-use Rattle.listing_lines.specs.Lines.{acceptedLine}
+use Rattle.listing_text.specs.Lines.{acceptedLine}
 use borrow.Author.Needs.{needs}
 use Rattle.listing_lines.proofs.lines.put_accepted.Statement.{statement}
 use Rattle.listing_lines.proofs.lines.put_accepted.Tie as tie

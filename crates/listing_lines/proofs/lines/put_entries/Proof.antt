@@ -3,7 +3,7 @@ use mathlib.Core.Path.{_≡_, refl}
 use Prim.Native.Nat.{_+_, _-_, _≤_}
 use native.Mathlib.Omega.{arith}
 use lib.ListN.{length}
-use Rattle.listing_lines.specs.Lines.{entryLines}
+use Rattle.listing_text.specs.Lines.{entryLines}
 use Rattle.text.specs.Place.{Put}
 use Rattle.text.proofs.Placing.{put-none, then}
 use Rattle.listing_lines.proofs.LineParts.{lines-more, length-more, lines-grow}

@@ -8,40 +8,40 @@ use borrow.Author.Needs.{needs}
 use Rattle.rank_tables.proofs.lookup.lookup.Statement.{statement}
 use Rattle.rank_tables.proofs.lookup.lookup.Tie as tie
 
-add-wide : tie.Need-add-wide
-add-wide c = search needs
+add-wide-pair : tie.Need-add-wide-pair
+add-wide-pair c = search needs
 
-mul-wide : tie.Need-mul-wide
-mul-wide c = search needs
+mul-wide-pair : tie.Need-mul-wide-pair
+mul-wide-pair c = search needs
 
-element-copy-out-wide : tie.Need-element-copy-out-wide
-element-copy-out-wide c = search needs
+element-copy-out-wide-pair : tie.Need-element-copy-out-wide-pair
+element-copy-out-wide-pair c = search needs
 
-wide-requires : tie.Need-wide-requires
-wide-requires c κs = search needs
+wide-pair-requires : tie.Need-wide-pair-requires
+wide-pair-requires c κs = search needs
 
-mul-wide-2 : tie.Need-mul-wide-2
-mul-wide-2 c = search needs
+mul-wide-pair-2 : tie.Need-mul-wide-pair-2
+mul-wide-pair-2 c = search needs
 
-element-copy-out-wide-2 : tie.Need-element-copy-out-wide-2
-element-copy-out-wide-2 c = search needs
+element-copy-out-wide-pair-2 : tie.Need-element-copy-out-wide-pair-2
+element-copy-out-wide-pair-2 c = search needs
 
-wide-requires-2 : tie.Need-wide-requires-2
-wide-requires-2 c κs = search needs
+wide-pair-requires-2 : tie.Need-wide-pair-requires-2
+wide-pair-requires-2 c κs = search needs
 
 -- both elements are first entries
-bounds : (c : tie.After-wide2)
+bounds : (c : tie.After-wide-pair2)
     → let a = c .before .before .before .before .before .args in
-    CellFrom (a .s .now) (a .d) (c .wide2 .result) (c .before .before .wide .result)
+    CellFrom (a .s .now) (a .d) (c .wide-pair2 .result) (c .before .before .wide-pair .result)
 bounds c =
     let p = c .before .before .before .before .before .pre in
-    (c .wide2 .ensures ∙ p .5 _ (omega arith), c .before .before .wide .ensures ∙ p .5 _ (omega arith))
+    (c .wide-pair2 .ensures .0 ∙ p .5 _ (omega arith), c .before .before .wide-pair .ensures .0 ∙ p .5 _ (omega arith))
 
 among-requires : tie.Need-among-requires
 among-requires c κs =
     let b = bounds c in
     let a = c .before .before .before .before .before .args in
-    let end-most : c .before .before .wide .result ≤ a .entries = omega (arith, b .1, from-most (a .s .now) (a .d + 1)) in
+    let end-most : c .before .before .wide-pair .result ≤ a .entries = omega (arith, b .1, from-most (a .s .now) (a .d + 1)) in
     search needs
 
 returns : tie.Need-returns
@@ -51,12 +51,12 @@ pub lookup-spec : {M : Type 1} → statement M
 lookup-spec =
     tie.close
     (tie.spec
-    add-wide
-    mul-wide
-    element-copy-out-wide
-    wide-requires
-    mul-wide-2
-    element-copy-out-wide-2
-    wide-requires-2
+    add-wide-pair
+    mul-wide-pair
+    element-copy-out-wide-pair
+    wide-pair-requires
+    mul-wide-pair-2
+    element-copy-out-wide-pair-2
+    wide-pair-requires-2
     among-requires
     returns)

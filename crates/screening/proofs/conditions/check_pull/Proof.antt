@@ -10,14 +10,11 @@ accept-requires c κs = search needs
 returns : tie.Need-returns
 returns c = search cases depth 9
 
-cast-t5 : tie.Need-cast-t5
-cast-t5 c = search needs
-
-cast-t6 : tie.Need-cast-t6
-cast-t6 c = search needs
+report-requires : tie.Need-report-requires
+report-requires c κs = search needs
 
 returns-2 : tie.Need-returns-2
 returns-2 c = search cases depth 9
 
 pub check-pull-spec : {M : Type 1} → statement M
-check-pull-spec = tie.close (tie.spec accept-requires returns cast-t5 cast-t6 returns-2)
+check-pull-spec = tie.close (tie.spec accept-requires returns report-requires returns-2)

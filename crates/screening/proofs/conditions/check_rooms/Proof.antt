@@ -11,10 +11,10 @@ use Rattle.screening.proofs.conditions.check_rooms.Statement.{statement
 use Rattle.screening.proofs.conditions.check_rooms.Tie as tie
 
 abbrev Inv-loop : tie.InvT-loop
-Inv-loop s start turns links t₀ t = firstFrom turns (roomFault s) t ≡ roomsFault s
+Inv-loop s start turns t₀ t = firstFrom turns (roomFault s) t ≡ roomsFault s
 
 abbrev μ-loop : tie.MeasureT-loop
-μ-loop s start turns links t₀ t = turns - t
+μ-loop s start turns t₀ t = turns - t
 
 loop-holds : tie.Need-loop-holds Inv-loop μ-loop
 unfolding roomsFault

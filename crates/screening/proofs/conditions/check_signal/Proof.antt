@@ -12,7 +12,7 @@ use Rattle.certificate.specs.Checks.{result, fine, need, firstFrom}
 use Rattle.octets.proofs.Cases.{go-on, stop, end}
 use Rattle.network.specs.Network.{networkOf}
 use Rattle.network.specs.Conditions.{pullSum, pullFault, signalPullsFault}
-use Rattle.screening.proofs.Bounds.{links-most}
+use Rattle.screening.proofs.Bounds.{roads-links, links-most}
 use Rattle.screening.proofs.conditions.check_signal.Statement.{statement}
 use Rattle.screening.proofs.conditions.check_signal.Tie as tie
 
@@ -23,7 +23,7 @@ abbrev μ-loop : tie.MeasureT-loop
 μ-loop s start turns links byte g sums l₀ l = links - l
 
 pull-sums-requires : tie.Need-pull-sums-requires Inv-loop μ-loop
-pull-sums-requires c κs = search needs
+pull-sums-requires c κs = roads-links (c .before .pre .0)
 
 loop-holds : tie.Need-loop-holds Inv-loop μ-loop
 unfolding signalPullsFault
@@ -48,7 +48,7 @@ here : (c : tie.After-check-pull Inv-loop μ-loop)
     → c .check-pull .result ≡ pullFault (c .before .before .before .before .before .args .s .now) (c .before .before .before .before .before .args .g) (c .before .before .loop .l)
 here c =
     let start = c .before .before .before .before .before in
-    by-sum _ _ _ _ _ _ (start .pre .2) (c .before .before .before .pull-sums .ensures _ (c .before .loop-test .taken)) (c .check-pull .ensures)
+    by-sum _ _ _ _ _ _ (start .pre .2) (c .before .before .before .pull-sums .ensures _ (omega (arith, c .before .loop-test .taken))) (c .check-pull .ensures)
 
 returns : tie.Need-returns Inv-loop μ-loop
 returns c = let h = here (c .before .before) in search stop

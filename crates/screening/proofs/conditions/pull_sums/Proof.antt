@@ -5,7 +5,7 @@ use native.Mathlib.Omega.{arith}
 use borrow.Author.Needs.{needs}
 use Rattle.certificate.specs.Octets.{bitOf}
 use Rattle.certificate.specs.Loops.{pick}
-use Rattle.certificate.specs.Layout.{turnsOf, fromOf, toOf, shareOf, pullOf}
+use Rattle.certificate.specs.Layout.{linksOf, turnsOf, fromOf, toOf, shareOf, pullOf}
 use Rattle.network.specs.Conditions.{pullSum}
 use Rattle.screening.proofs.Bounds.{turns-most, links-most, from-most, to-link, turn-whole}
 use Rattle.screening.proofs.Summing.{Summed, summed-zeros, summed-more}
@@ -13,11 +13,11 @@ use Rattle.screening.proofs.conditions.pull_sums.Statement.{statement}
 use Rattle.screening.proofs.conditions.pull_sums.Tie as tie
 
 abbrev Inv-loop : tie.InvT-loop
-Inv-loop s start turns links byte sums₀ t₀ sums t =
-    (t ≤ turns) × Summed links (toOf s) (λ u. pick (bitOf byte (fromOf s u)) (shareOf s u * pullOf s u) 0) (λ _. 0) (λ _. 0) 0 16711425 t sums
+Inv-loop s start turns byte sums₀ t₀ sums t =
+    (t ≤ turns) × Summed (linksOf s) (toOf s) (λ u. pick (bitOf byte (fromOf s u)) (shareOf s u * pullOf s u) 0) (λ _. 0) (λ _. 0) 0 16711425 t sums
 
 abbrev μ-loop : tie.MeasureT-loop
-μ-loop s start turns links byte sums₀ t₀ sums t = turns - t
+μ-loop s start turns byte sums₀ t₀ sums t = turns - t
 
 loop-holds : tie.Need-loop-holds Inv-loop μ-loop
 loop-holds c = (search needs, summed-zeros _ _ _ _ (links-most (c .before .pre)))
@@ -26,7 +26,7 @@ to-within-requires : tie.Need-to-within-requires Inv-loop μ-loop
 to-within-requires c κs = (search needs, search needs, search needs, turn-whole (c .before .before .before .pre) (c .before .loop .t) (c .loop-test .taken))
 
 -- the turn's to link is one of the links
-to-here : (c : tie.After-to-within Inv-loop μ-loop) → c .to-within .result < c .before .before .before .before .args .links
+to-here : (c : tie.After-to-within Inv-loop μ-loop) → c .to-within .result < linksOf (c .before .before .before .before .args .s .now)
 to-here c = omega (arith, to-link (c .before .before .before .before .pre) (c .before .before .loop .t) (c .before .loop-test .taken))
 
 green-pull-requires : tie.Need-green-pull-requires Inv-loop μ-loop

@@ -14,10 +14,10 @@ use Rattle.successors.proofs.seek.first_run.Statement.{statement}
 use Rattle.successors.proofs.seek.first_run.Tie as tie
 
 abbrev Inv-loop : tie.InvT-loop
-Inv-loop s counts weights first last links cells base₀ l₀ base l = (base ≡ firstsOf s first l) × NotEmpty first last l × (l ≤ links)
+Inv-loop s weights first last links cells base₀ l₀ base l = (base ≡ firstsOf s first l) × NotEmpty first last l × (l ≤ links)
 
 abbrev μ-loop : tie.MeasureT-loop
-μ-loop s counts weights first last links cells base₀ l₀ base l = links - l
+μ-loop s weights first last links cells base₀ l₀ base l = links - l
 
 exists : (c : tie.In-loop Inv-loop μ-loop) → c .before .loop .l < linksOf (c .before .before .before .args .s .now)
 exists c = omega arith
@@ -29,14 +29,14 @@ next : (c : tie.In-loop Inv-loop μ-loop)
 next c =
     let l = c .before .loop in
     let a = c .before .before .before in
-    rw (l .inv .0, a .pre .0 .weight (l .l) (exists c), add-one) (firsts-more (a .args .s .now) (a .pre .0 .readable) (a .args .first .now) (a .args .last .now) (l .l) (exists c))
+    rw (l .inv .0, a .pre .1 (l .l) (exists c), add-one) (firsts-more (a .args .s .now) (a .pre .0) (a .args .first .now) (a .args .last .now) (l .l) (exists c))
 
 -- the ranges are not empty up to this link
 more : (c : tie.Else1 Inv-loop μ-loop) → NotEmpty (c .before .before .before .before .before .before .args .first .now) (c .before .before .before .before .before .before .args .last .now) (c .before .before .before .before .loop .l + 1)
 more c = let l = c .before .before .before .before .loop in below-more _ (l .l) (l .inv .1) (c .if1 .left)
 
 loop-holds : tie.Need-loop-holds Inv-loop μ-loop
-loop-holds c = let a = c .before in (sym (firsts-none (a .args .s .now) (a .pre .0 .readable) (a .args .first .now) (a .args .last .now)), below-none _, omega arith)
+loop-holds c = let a = c .before in (sym (firsts-none (a .args .s .now) (a .pre .0) (a .args .first .now) (a .args .last .now)), below-none _, omega arith)
 
 mul-f : tie.Need-mul-f Inv-loop μ-loop
 mul-f c = omega arith
@@ -74,8 +74,8 @@ ahead-requires c κs =
     let i = c .before .before .before .before in
     let a = i .before .before .before in
     let s = a .args .s .now in
-    let R = a .pre .0 .readable in
-    let fits = firsts-fit s R _ _ (a .pre .1) (i .before .loop .l + 1) (omega (arith, exists i)) (more (c .before)) in
+    let R = a .pre .0 in
+    let fits = firsts-fit s R _ _ (a .pre .3) (i .before .loop .l + 1) (omega (arith, exists i)) (more (c .before)) in
     omega (arith, next i, cells-in-range s R)
 
 add-l : tie.Need-add-l Inv-loop μ-loop
@@ -95,11 +95,11 @@ whole c =
     let l = c .before .loop in
     let a = c .before .before .before in
     let s = a .args .s .now in
-    let R = a .pre .0 .readable in
+    let R = a .pre .0 in
     let all : l .l ≡ linksOf s = omega arith in
     let full = rw all at (l .inv .1) in
     let e = rw all at (l .inv .0) in
-    (first-sought s R _ _ (a .pre .1) (l .base) full e, first-starts s R _ _ (a .pre .1) (l .base) full e)
+    (first-sought s R _ _ (a .pre .3) (l .base) full e, first-starts s R _ _ (a .pre .3) (l .base) full e)
 
 returns-2 : tie.Need-returns-2 Inv-loop μ-loop
 returns-2 c = let w = whole c in (w .0, λ h. w .1)

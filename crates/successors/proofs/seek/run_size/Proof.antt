@@ -14,12 +14,12 @@ use Rattle.successors.proofs.seek.run_size.Tie as tie
 -- the size as the code computes it, by the table of weights
 size : (a : tie.Start) → (getD (a .args .last .now) (a .args .k) 0 + 1 - getD (a .args .first .now) (a .args .k) 0) * getD (a .args .weights .now) (a .args .k) 0
     ≡ runSize (a .args .s .now) (a .args .first .now) (a .args .last .now) (a .args .k)
-size a = rw (a .pre .0 .weight (a .args .k) (a .pre .2))
+size a = rw (a .pre .1 (a .args .k) (a .pre .3))
 
 fits : (a : tie.Start) → runSize (a .args .s .now) (a .args .first .now) (a .args .last .now) (a .args .k) ≤ 4096
 fits a = let s = a .args .s .now in
-    let R = a .pre .0 .readable in
-    omega (arith, size-fits s R _ _ (a .pre .1) (a .args .k) (a .pre .2), cells-in-range s R)
+    let R = a .pre .0 in
+    omega (arith, size-fits s R _ _ (a .pre .2) (a .args .k) (a .pre .3), cells-in-range s R)
 
 mul-if1 : tie.Need-mul-if1
 mul-if1 c = search needs
@@ -49,7 +49,7 @@ add-ahead : tie.Need-add-ahead
 add-ahead c =
     let a = c .before .before .before .before .before in
     let k = a .args .k in
-    omega (arith, a .pre .1 .last-most k (a .pre .2), a .pre .0 .readable .grid k (a .pre .2) .count-most)
+    omega (arith, a .pre .2 .last-most k (a .pre .3), a .pre .0 .grid k (a .pre .3) .count-most)
 
 mul-ahead-2 : tie.Need-mul-ahead-2
 mul-ahead-2 c = search needs

@@ -1,0 +1,46 @@
+-- `entry_search::standing::check_standing` meets its contract. Assumes nothing.
+use Rattle.octets.proofs.Cases.{cases}
+use Rattle.judging.specs.Judging.{standingFault}
+use borrow.Author.Needs.{needs}
+use Rattle.entry_setup.proofs.standing.check_standing.Statement.{statement}
+use Rattle.entry_setup.proofs.standing.check_standing.Tie as tie
+
+limits-of-requires : tie.Need-limits-of-requires
+limits-of-requires c κs = search needs
+
+report-requires : tie.Need-report-requires
+report-requires c κs = search needs
+
+returns : tie.Need-returns
+unfolding standingFault
+returns c = search cases depth 9
+
+rank-fits-requires : tie.Need-rank-fits-requires
+rank-fits-requires c κs = search needs
+
+report-requires-2 : tie.Need-report-requires-2
+report-requires-2 c κs = search needs
+
+returns-2 : tie.Need-returns-2
+unfolding standingFault
+returns-2 c = search cases depth 9
+
+report-requires-3 : tie.Need-report-requires-3
+report-requires-3 c κs = search needs
+
+returns-3 : tie.Need-returns-3
+unfolding standingFault
+returns-3 c = search cases depth 9
+
+pub check-standing-spec : {M : Type 1} → statement M
+check-standing-spec =
+    tie.close
+    (tie.spec
+    limits-of-requires
+    report-requires
+    returns
+    rank-fits-requires
+    report-requires-2
+    returns-2
+    report-requires-3
+    returns-3)

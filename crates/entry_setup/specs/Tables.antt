@@ -1,0 +1,78 @@
+-- What judging finds out once of a certificate, as tables, and once of an entry: its task, the edges of its cell, and the ends of its image before arrivals.
+use Prim.Native.Nat.{ℕ, _+_, _*_, _/_, _%_, _≤_, _<_}
+use mathlib.Core.List.{List}
+use mathlib.Core.Path.{_≡_}
+use lib.Dec.{eqb}
+use lib.ListN.{getD}
+use Rattle.certificate.specs.Octets.{u16At}
+use Rattle.certificate.specs.Loops.{pick}
+use Rattle.certificate.specs.Layout.{maxEntries, maxBoxes, maxCells, linksOf, modesOf, capOf, cellsOf, boxesOf, arrivalAt, lowOf, highOf, entriesOf, cellOf, signalOf, nextModeOf, rankOf}
+use Rattle.network.specs.Network.{networkOf, limitOf}
+use Rattle.network.specs.Flow.{gross}
+use Rattle.network.specs.Image.{lowCorner, highCorner}
+use Rattle.network.specs.Laws.{Screened}
+use Rattle.supply.specs.Supply.{FirstTurns}
+use Rattle.grid.specs.Cells.{lowerOf, upperOf}
+use Rattle.octets.specs.Tables.{Holds}
+use Rattle.cell_tables.specs.Tables.{EdgesOf, GridOf}
+use Rattle.entry_setup.specs.declared.LinkTables.{LinkTables}
+use Rattle.entry_setup.specs.declared.Task.{Task}
+
+-- ten thousand times the cap of each link
+abbrev pub CapsOf : List ℕ → List ℕ → Type 0
+CapsOf s a = Holds (linksOf s) (λ l. 10000 * capOf s l) a
+
+-- sixteen a box: for each link ten thousand times the least and the most that arrives
+pub record ArrivalsOf (s a : List ℕ) : Type 0 where
+  pub low-is : (b l : ℕ) → b < boxesOf s → l < linksOf s → getD a (16 * b + 2 * l) 0 ≡ 10000 * lowOf s b l
+  pub high-is : (b l : ℕ) → b < boxesOf s → l < linksOf s → getD a (16 * b + 1 + 2 * l) 0 ≡ 10000 * highOf s b l
+
+-- entry k of that table: field k % 16 of box k / 16
+unfoldable pub arrivalEntry : List ℕ → ℕ → ℕ
+arrivalEntry s k = 10000 * u16At s (arrivalAt s (k / 16) + (2 + 2 * (k % 16)))
+
+-- the tables of a certificate that passes the tests before 12: those of its links, the edges of the links' intervals, and the arrivals
+-- of each box
+pub record TablesOf (s : List ℕ) (tables : LinkTables) (edges arrivals : List ℕ) : Type 0 where
+  pub screened : Screened s
+  pub grid : GridOf s (tables .counts) (tables .weights) (tables .links)
+  pub cap : CapsOf s (tables .caps)
+  pub turn : FirstTurns s (tables .«first_turns»)
+  pub edge : EdgesOf s edges
+  pub arrival : ArrivalsOf s arrivals
+
+-- the edges of cell c on every link
+pub record CellEdges (s : List ℕ) (c : ℕ) (lower upper : List ℕ) : Type 0 where
+  pub lower-is : (l : ℕ) → l < linksOf s → getD lower l 0 ≡ lowerOf s c l
+  pub upper-is : (l : ℕ) → l < linksOf s → getD upper l 0 ≡ upperOf s c l
+
+-- the ends of the image of entry e's cell under its signal, before arrivals
+pub record EntryEnds (s : List ℕ) (e : ℕ) (low high : List ℕ) : Type 0 where
+  pub low-is : (l : ℕ) → l < linksOf s
+      → getD low l 0 ≡ gross (networkOf s) (limitOf s (signalOf s e)) 1 (lowCorner (networkOf s) l (lowerOf s (cellOf s e)) (upperOf s (cellOf s e))) (λ _. 0) l
+  pub high-is : (l : ℕ) → l < linksOf s
+      → getD high l 0 ≡ gross (networkOf s) (limitOf s (signalOf s e)) 1 (highCorner (networkOf s) l (lowerOf s (cellOf s e)) (upperOf s (cellOf s e))) (λ _. 0) l
+  pub low-most : (l : ℕ) → l < linksOf s → getD low l 0 ≤ 10000000000
+  pub high-most : (l : ℕ) → l < linksOf s → getD high l 0 ≤ 10000000000
+
+-- the most that the table of ranks, which has them raised by one, may have for a successor: a lower rank, or any where the rank is 0
+unfoldable pub limitFor : ℕ → ℕ
+limitFor rank = pick (eqb rank 0) 4294967295 rank
+
+-- the task of an entry: the numbers are those of the certificate and of the entry, and `row` is where the next mode's ranks stand
+pub record IsTask (s : List ℕ) (task : Task) : Type 0 where
+  pub boxes-is : task .boxes ≡ boxesOf s
+  pub boxes-most : task .boxes ≤ maxBoxes
+  pub cells-is : task .cells ≡ cellsOf s
+  pub cells-most : task .cells ≤ maxCells
+  pub entry-exists : task .entry < entriesOf s
+  pub entry-most : task .entry < maxEntries
+  pub next-exists : nextModeOf s (task .entry) < modesOf s
+  pub row-is : task .row ≡ nextModeOf s (task .entry) * cellsOf s
+  pub row-fits : task .row + task .cells ≤ 32768
+  pub rank-is : task .rank ≡ rankOf s (task .entry)
+  pub limit-is : task .limit ≡ limitFor (task .rank)
+
+-- a table of the upper edges of entry e's cell, one a link
+abbrev pub UpperEdges : List ℕ → ℕ → List ℕ → Type 0
+UpperEdges s e upper = (l : ℕ) → l < linksOf s → getD upper l 0 ≡ upperOf s (cellOf s e) l

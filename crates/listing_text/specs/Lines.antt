@@ -1,0 +1,33 @@
+-- The lines of a listing: counts, one for each entry, and the verdict.
+use Prim.Native.Nat.{ℕ, zero, suc}
+use mathlib.Core.List.{List, [], _++_}
+use Rattle.certificate.specs.declared.Report.{Report}
+use Rattle.certificate.specs.Layout.{linksOf, turnsOf, signalsOf, modesOf, boxesOf, entriesOf, cellOf, modeOf, signalOf, nextModeOf, rankOf}
+use Rattle.listing_text.specs.Text.{decimal, space, lineFeed, field, linksWord, turnsWord, signalsWord, modesWord, arrivalsWord, entriesWord, acceptedWord, refusedWord}
+
+unfoldable pub countsLine : List ℕ → List ℕ
+countsLine s =
+    field linksWord (linksOf s) ++ (space ++ (field turnsWord (turnsOf s) ++ (space ++ (field signalsWord (signalsOf s)
+    ++ (space ++ (field modesWord (modesOf s) ++ (space ++ (field arrivalsWord (boxesOf s)
+    ++ (space ++ (field entriesWord (entriesOf s) ++ lineFeed))))))))))
+
+-- entry e: cell, mode, signal, next mode, rank
+unfoldable pub entryLine : List ℕ → ℕ → List ℕ
+entryLine s e =
+    decimal (cellOf s e) ++ (space ++ (decimal (modeOf s e) ++ (space ++ (decimal (signalOf s e)
+    ++ (space ++ (decimal (nextModeOf s e) ++ (space ++ (decimal (rankOf s e) ++ lineFeed))))))))
+
+-- the lines of the entries before n
+unfoldable pub entryLines : List ℕ → ℕ → List ℕ
+entryLines s zero = []
+entryLines s (suc n) = entryLines s n ++ entryLine s n
+
+-- accepted, and the count
+unfoldable pub acceptedLine : Report → List ℕ
+acceptedLine r = field acceptedWord (r .count) ++ lineFeed
+
+-- refused, number, A, B, count
+unfoldable pub refusedLine : Report → List ℕ
+refusedLine r =
+    field refusedWord (r .number) ++ (space ++ (decimal (r .a) ++ (space ++ (decimal (r .b) ++ (space ++ (decimal (r .count)
+    ++ lineFeed))))))

@@ -1,0 +1,1 @@
+// The text of a listing. Definitions only: there is nothing to execute.

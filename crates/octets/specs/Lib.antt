@@ -1,0 +1,2 @@
+-- What the code that fills tables goes by.
+pub mod Tables

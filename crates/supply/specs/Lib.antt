@@ -1,0 +1,2 @@
+-- What the code of supplies goes by.
+pub mod Supply

@@ -1,0 +1,2 @@
+-- What the code that judges entry by entry goes by.
+pub mod Entries
