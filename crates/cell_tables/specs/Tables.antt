@@ -1,4 +1,4 @@
--- Tables made once for a certificate: where its grids stand, their edges, counts and weights, the intervals of each cell; and the ranges of intervals that meet an image.
+-- Tables made once for a certificate: where its grids stand, their edges, counts and weights, the intervals of each cell.
 use Prim.Native.Nat.{ℕ, zero, suc, _+_, _*_, _-_, _/_, _%_, _≤_, _<_}
 use mathlib.Core.List.{List}
 use mathlib.Core.Path.{_≡_}

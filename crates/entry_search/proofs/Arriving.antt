@@ -1,4 +1,4 @@
--- The tables of caps and arrivals, and the ends of an entry's image with the arrivals of a box. Assumes nothing.
+-- The ends of an entry's image with the arrivals of a box. Assumes nothing.
 use Prim.Native.Nat.{ℕ, _+_, _*_, _≤_, _<_, min}
 use mathlib.Core.List.{List}
 use mathlib.Core.Path.{_≡_, refl, _∙_}

@@ -1,4 +1,4 @@
--- The ends of an entry's image before arrivals, and the ranges of intervals that meet it. Assumes nothing.
+-- The cells in the ranges that meet an entry's image are its successors, and their runs are those of the ranges. Assumes nothing.
 use Prim.Native.Nat.{ℕ}
 use mathlib.Core.List.{List}
 use mathlib.Core.Path.{_≡_, _∙_}

@@ -1,4 +1,4 @@
--- What the code is told of a certificate's network, as plain numbers and arrays, and what these are.
+-- What the code of the image goes by: limits, what links pass on, one side of the image, and its ends before arrivals.
 use Prim.Native.Nat.{ℕ, _+_, _*_, _≤_, _<_, min}
 use mathlib.Core.List.{List}
 use mathlib.Core.Path.{_≡_}
