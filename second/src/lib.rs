@@ -5,6 +5,7 @@
 pub mod cases;
 pub mod certificate;
 pub mod conditions;
+pub mod draw;
 pub mod flow;
 pub mod grid;
 pub mod image;

@@ -1,5 +1,6 @@
 //! Commands of the second checker.
 
+use second::draw::draw;
 use second::listing::{listing, refused};
 use second::{cases, text};
 use std::io::{Read, Write};
@@ -7,12 +8,13 @@ use std::path::Path;
 use std::process::ExitCode;
 
 const USAGE: &str = "\
-usage: second list FILE     list a certificate (exit 0 accepted, 1 refused)
-       second encode FILE   text of a certificate to bytes
-       second decode FILE   bytes of a certificate to text
-       second cases DIR     run the stored cases of a folder
-       second binary DIR    the stored cases as input of a test program
-       second expected DIR  what that program must print
+usage: second list FILE              list a certificate (exit 0 accepted, 1 refused)
+       second draw FILE [LINK LINK]  a picture of a certificate (exit 0 accepted, 1 refused)
+       second encode FILE            text of a certificate to bytes
+       second decode FILE            bytes of a certificate to text
+       second cases DIR              run the stored cases of a folder
+       second binary DIR             the stored cases as input of a test program
+       second expected DIR           what that program must print
 FILE may be `-` for standard input.
 ";
 
@@ -37,6 +39,10 @@ fn main() -> ExitCode {
     let words: Vec<&str> = words.iter().map(String::as_str).collect();
     let ended = match words[..] {
         ["list", file] => list(file),
+        ["draw", file] => picture(file, None),
+        ["draw", file, across, up] => {
+            two_links(across, up).and_then(|links| picture(file, Some(links)))
+        }
         ["encode", file] => encode(file),
         ["decode", file] => decode(file),
         ["cases", folder] => run_cases(folder),
@@ -56,6 +62,30 @@ fn main() -> ExitCode {
 fn list(file: &str) -> Result<u8, Failure> {
     let (text, report) = listing(&read(file)?);
     print(text.as_bytes())?;
+    Ok(if report.number == 0 { 0 } else { 1 })
+}
+
+/// Two link numbers that differ.
+fn two_links(across: &str, up: &str) -> Result<[usize; 2], Failure> {
+    let number = |word: &str| {
+        let digit = word.bytes().next().filter(|_| word.len() == 1);
+        digit.filter(|digit| (b'0'..=b'7').contains(digit))
+    };
+    match (number(across), number(up)) {
+        (Some(across), Some(up)) if across != up => {
+            Ok([usize::from(across - b'0'), usize::from(up - b'0')])
+        }
+        _ => Err(Failure::new(
+            2,
+            format!("expected two links that differ (numbers from 0 to 7), found `{across} {up}`"),
+        )),
+    }
+}
+
+fn picture(file: &str, links: Option<[usize; 2]>) -> Result<u8, Failure> {
+    let drawn = draw(&read(file)?, links);
+    let (picture, report) = drawn.map_err(|what| Failure::new(2, format!("{file}: {what}")))?;
+    print(picture.as_bytes())?;
     Ok(if report.number == 0 { 0 } else { 1 })
 }
 

@@ -1,0 +1,177 @@
+//! Where the junctions and links of a network are drawn.
+//!
+//! Junctions stand on one line. A link to the next junction on the right runs along the line; every other link has
+//! a lane above or below it. Lanes and gaps have room for their labels, so no two labels meet.
+
+use super::lanes::{lanes, Lane};
+use super::order::junction_order;
+use super::style::{Style, LEFT, RIGHT};
+use crate::certificate::Link;
+
+/// Radius of a junction.
+pub const RADIUS: i32 = 16;
+/// From lane to lane, and where a lane is short.
+const LANE: i32 = 50;
+const SHORT_LANE: i32 = 62;
+
+/// The label of a link: its lines above and below the arrow.
+pub struct Label {
+    pub above: Vec<String>,
+    pub below: Vec<String>,
+}
+
+impl Label {
+    /// Two amounts a line.
+    pub fn wide(link: &Link) -> Label {
+        Label {
+            above: vec![format!("cap {} · flow {}", link.cap, link.flow)],
+            below: vec![format!("safe {} · goal {}", link.safe, link.goal)],
+        }
+    }
+
+    /// One amount a line.
+    pub fn narrow(link: &Link) -> Label {
+        Label {
+            above: vec![format!("cap {}", link.cap), format!("flow {}", link.flow)],
+            below: vec![format!("safe {}", link.safe), format!("goal {}", link.goal)],
+        }
+    }
+
+    /// All lines on one side.
+    pub fn on_one_side(mut self, above: bool) -> Label {
+        self.above.append(&mut self.below);
+        if !above {
+            std::mem::swap(&mut self.above, &mut self.below);
+        }
+        self
+    }
+
+    pub fn width(&self) -> i32 {
+        let lines = self.above.iter().chain(&self.below);
+        lines
+            .map(|line| Style::Label.width(line))
+            .max()
+            .unwrap_or(0)
+    }
+}
+
+/// A link along the line of junctions, from one rim to the other.
+pub struct Straight {
+    pub link: usize,
+    pub from: i32,
+    pub to: i32,
+}
+
+pub struct Layout {
+    /// Number and place of each junction.
+    pub junctions: Vec<(u8, i32)>,
+    pub straight: Vec<Straight>,
+    /// Labels along the line have one amount a line.
+    pub narrow: bool,
+    pub lanes: Vec<Lane>,
+}
+
+impl Layout {
+    pub fn of(links: &[Link]) -> Layout {
+        let order = junction_order(links);
+        let mut along = links_along(links, &order);
+        let mut places = junction_places(&along);
+        let narrow = !labels_fit(links, &along, &places, Label::wide);
+        if narrow && !labels_fit(links, &along, &places, Label::narrow) {
+            along = vec![None; order.len()];
+            places = junction_places(&along);
+        }
+        let straight = straight_links(&along, &places);
+        let taken: Vec<usize> = straight.iter().map(|one| one.link).collect();
+        Layout {
+            lanes: lanes(links, &order, &places, &taken),
+            junctions: order.into_iter().zip(places).collect(),
+            straight,
+            narrow,
+        }
+    }
+
+    /// What the line of junctions needs above it and below it.
+    pub fn half(&self) -> i32 {
+        match (self.straight.is_empty(), self.narrow) {
+            (true, _) => RADIUS + 2,
+            (false, false) => 26,
+            (false, true) => 38,
+        }
+    }
+
+    /// Distance of a lane from the line of junctions.
+    pub fn lane_distance(&self, lane: &Lane) -> i32 {
+        let short = self.lanes.iter().any(Lane::is_short);
+        let pitch = if short { SHORT_LANE } else { LANE };
+        self.half() + 28 + lane.row as i32 * pitch
+    }
+
+    /// What is needed on one side of the line of junctions.
+    pub fn reach(&self, above: bool) -> i32 {
+        let lanes = self.lanes.iter().filter(|lane| lane.above == above);
+        let farthest = lanes
+            .map(|lane| self.lane_distance(lane) + if lane.is_short() { 38 } else { 26 })
+            .max();
+        farthest.unwrap_or(self.half())
+    }
+}
+
+/// For each junction the link that comes straight from the one before it, or from outside for the first.
+fn links_along(links: &[Link], order: &[u8]) -> Vec<Option<usize>> {
+    let mut along = Vec::new();
+    let mut before = 0;
+    for &junction in order {
+        let straight = |link: &Link| link.tail == before && link.head == junction;
+        along.push(links.iter().position(straight));
+        before = junction;
+    }
+    along
+}
+
+/// Gaps with a link are as wide as the page allows, the others small.
+fn junction_places(along: &[Option<usize>]) -> Vec<i32> {
+    let page = RIGHT - LEFT - 40;
+    let wide = along.iter().flatten().count() as i32;
+    let others = along.len() as i32 - wide;
+    let most = if wide == 0 { 140 } else { 64 };
+    let narrow = most.min(page / others.max(1));
+    let wide = (page - others * narrow) / wide.max(1);
+    let mut place = LEFT;
+    let mut places = Vec::new();
+    for link in along {
+        place += if link.is_some() {
+            wide.min(440)
+        } else {
+            narrow
+        };
+        places.push(place);
+    }
+    places
+}
+
+/// Do the labels of all links along the line fit between their junctions?
+fn labels_fit(
+    links: &[Link],
+    along: &[Option<usize>],
+    places: &[i32],
+    label: fn(&Link) -> Label,
+) -> bool {
+    straight_links(along, places).iter().all(|straight| {
+        let width = label(&links[straight.link]).width();
+        width <= straight.to - straight.from - 4
+    })
+}
+
+fn straight_links(along: &[Option<usize>], places: &[i32]) -> Vec<Straight> {
+    let mut straight = Vec::new();
+    let mut from = LEFT;
+    for (link, place) in along.iter().zip(places) {
+        if let &Some(link) = link {
+            let to = place - RADIUS;
+            straight.push(Straight { link, from, to });
+        }
+        from = place + RADIUS;
+    }
+    straight
+}
