@@ -2,32 +2,10 @@
 
 mod common;
 
+use common::program::{ends, ends_with_2, second};
 use common::{L, L_TEXT};
 use second::cases::{expected, stream};
-use std::io::Write;
 use std::path::Path;
-use std::process::{Command, Output, Stdio};
-
-/// Runs a command with this standard input.
-fn second(words: &[&str], input: &[u8]) -> Output {
-    let mut child = Command::new(env!("CARGO_BIN_EXE_second"))
-        .args(words)
-        .stdin(Stdio::piped())
-        .stdout(Stdio::piped())
-        .stderr(Stdio::piped())
-        .spawn()
-        .unwrap();
-    // A command that does not read its input may have ended already.
-    let _ = child.stdin.take().unwrap().write_all(input);
-    child.wait_with_output().unwrap()
-}
-
-fn ends(words: &[&str], input: &[u8], code: i32, out: &[u8], error: &str) {
-    let output = second(words, input);
-    assert_eq!(output.status.code(), Some(code), "{words:?}");
-    assert_eq!(output.stdout, out, "{words:?}");
-    assert_eq!(String::from_utf8_lossy(&output.stderr), error, "{words:?}");
-}
 
 #[test]
 fn list() {
@@ -40,10 +18,8 @@ accepted 4
 ";
     ends(&["list", "-"], &L, 0, whole.as_bytes(), "");
     ends(&["list", "-"], &L[..65], 1, b"refused 1 64 0 0\n", "");
-    let absent = second(&["list", "no/such/file"], b"");
-    assert_eq!(absent.status.code(), Some(2));
-    assert!(absent.stdout.is_empty());
-    assert!(String::from_utf8_lossy(&absent.stderr).starts_with("no/such/file: cannot be read: "));
+    let absent = "no/such/file: cannot be read: ";
+    ends_with_2(&["list", "no/such/file"], b"", absent);
 }
 
 #[test]
@@ -67,6 +43,16 @@ fn encode_and_decode() {
         b"",
         "-:2: expected text in UTF-8\n",
     );
+}
+
+/// A file that is not there, one that is a folder, and one whose reading fails.
+#[test]
+fn files_that_cannot_be_read() {
+    for command in ["list", "draw", "encode", "decode"] {
+        for file in ["no/such/file", env!("CARGO_MANIFEST_DIR"), "/proc/self/mem"] {
+            ends_with_2(&[command, file], b"", &format!("{file}: cannot be read: "));
+        }
+    }
 }
 
 #[test]
@@ -94,9 +80,20 @@ fn binary_and_expected() {
 
 #[test]
 fn usage() {
-    for words in [&[][..], &["list"], &["judge", "-"], &["list", "-", "-"]] {
+    for words in [
+        &[][..],
+        &["list"],
+        &["judge", "-"],
+        &["list", "-", "-"],
+        &["draw"],
+        &["draw", "-", "0"],
+        &["draw", "-", "0", "1", "2"],
+        &["decode"],
+        &["decode", "-", "-"],
+    ] {
         let output = second(words, b"");
         assert_eq!(output.status.code(), Some(2));
+        assert!(output.stdout.is_empty());
         assert!(output.stderr.starts_with(b"usage: second list FILE"));
     }
 }

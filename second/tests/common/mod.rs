@@ -1,6 +1,9 @@
 //! Certificates that several tests use.
 #![allow(dead_code)]
 
+pub mod large;
+pub mod program;
+
 use second::text::encode;
 
 /// Document 01's L, byte for byte.
