@@ -14,7 +14,7 @@ use Rattle.certificate.specs.Checks.{refusal, fine}
 use Rattle.certificate.specs.Loops.{everyFrom}
 use Rattle.certificate.specs.Layout.{linksOf, capOf, entriesOf}
 use Rattle.certificate.specs.Facts.{Readable}
-use Rattle.reading.specs.Laid.{ReadAs, noLayout}
+use Rattle.reading.specs.ReadingResults.{ReadAs, noLayout}
 use Rattle.certificate.proofs.Tests.{need-both, need-pass, need-fail}
 use Rattle.octets.proofs.Cases.{pass, fail}
 use Rattle.certificate.proofs.Loops.{every-turn, every-end}
@@ -23,8 +23,8 @@ use Rattle.network.proofs.Screening.{screening-is-plain}
 use Rattle.cell_tables.specs.Tables.{QueuesFit}
 use Rattle.judging.specs.Lookup.{entryFor, isListed}
 use Rattle.asking.specs.declared.Found.{Found}
-use Rattle.judging.specs.Asking.{queueAt, isProper, cellAsked, lookupFault, Proper}
-use Rattle.asking.specs.Asked.{storedFault, foundAt, notFound, lookupOf, askedOf}
+use Rattle.judging.specs.Asking.{queueAt, isProper, cellAsked, cellFault, Proper}
+use Rattle.asking.specs.FoundEntries.{storedFault, foundAt, notFound, cellFound, lookupOf, askedOf}
 use Rattle.judging.proofs.Asking.{proper-tells}
 
 -- the loop that compares each queue with cap times the scale: it goes on, stops, ends
@@ -79,10 +79,8 @@ module _ (bytes : List ℕ) (n : ℕ) (r : Reading) where
 module _ (s : List ℕ) (mode : ℕ) (queues : List ℕ) (scale : ℕ) where
   -- 16
   pub finds-improper : {r : Found} → isProper s queues scale ≡ false → r ≡ notFound (refusal 16 0) mode → r ≡ lookupOf s mode queues scale
-  unfolding lookupOf lookupFault
-  finds-improper bad e =
-      let fault : lookupFault s mode queues scale ≡ refusal 16 0 = need-fail _ _ _ bad in
-      e ∙ rw fault
+  unfolding lookupOf
+  finds-improper bad e = e ∙ rw bad
 
   module _ (ok : isProper s queues scale ≡ true) where
     proper : Proper s queues scale
@@ -98,24 +96,29 @@ module _ (s : List ℕ) (mode : ℕ) (queues : List ℕ) (scale : ℕ) where
     pub queues-fit : QueuesFit s scale queues
     queues-fit l lt = rw (mul-comm scale (capOf s l)) (proper .queue-most l lt)
 
-    module _ {cell e entries : ℕ} (asked : cell ≡ cellAsked s queues scale) (is : e ≡ entryFor s cell mode) (all : entries ≡ entriesOf s) where
-      listed : (b : Bool) → ltb e entries ≡ b → isListed s (cellAsked s queues scale) mode ≡ b
-      unfolding isListed
-      listed b t = rw (← asked, ← is, ← all) t
+    -- what is found for the queues' cell
+    pub finds-cell : {cell : ℕ} {r : Found} → cell ≡ cellAsked s queues scale → r ≡ cellFound s mode cell → r ≡ lookupOf s mode queues scale
+    unfolding lookupOf
+    finds-cell asked e = e ∙ rw (ok, asked)
 
-      -- 19
-      pub finds-none : {r : Found} → entries ≤ e → r ≡ notFound (refusal 19 0) mode → r ≡ lookupOf s mode queues scale
-      unfolding lookupOf lookupFault
-      finds-none beyond w =
-          let fault : lookupFault s mode queues scale ≡ refusal 19 0 = need-pass _ _ _ ok ∙ need-fail _ _ _ (listed false (le-ltb _ _ beyond)) in
-          w ∙ rw fault
+-- what is found for a cell
+module _ (s : List ℕ) (mode cell : ℕ) {e entries : ℕ} (is : e ≡ entryFor s cell mode) (all : entries ≡ entriesOf s) where
+  listed : (b : Bool) → ltb e entries ≡ b → isListed s cell mode ≡ b
+  unfolding isListed
+  listed b t = rw (← is, ← all) t
 
-      pub finds : {r : Found} → e < entries → r ≡ foundAt s e → r ≡ lookupOf s mode queues scale
-      unfolding lookupOf lookupFault
-      finds inside w =
-          let fault : lookupFault s mode queues scale ≡ fine = need-pass _ _ _ ok ∙ need-pass _ _ _ (listed true (lt-ltb _ _ inside)) in
-          let entry : entryFor s (cellAsked s queues scale) mode ≡ e = rw (← asked) (sym is) in
-          w ∙ rw (fault, entry)
+  -- 19
+  pub finds-none : {r : Found} → entries ≤ e → r ≡ notFound (refusal 19 0) mode → r ≡ cellFound s mode cell
+  unfolding cellFound cellFault
+  finds-none beyond w =
+      let fault : cellFault s mode cell ≡ refusal 19 0 = need-fail _ _ _ (listed false (le-ltb _ _ beyond)) in
+      w ∙ rw fault
+
+  pub finds : {r : Found} → e < entries → r ≡ foundAt s e → r ≡ cellFound s mode cell
+  unfolding cellFound cellFault
+  finds inside w =
+      let fault : cellFault s mode cell ≡ fine = need-pass _ _ _ (listed true (lt-ltb _ _ inside)) in
+      w ∙ rw (fault, is)
 
 -- looking up in the first n bytes of an array
 module _ (bytes : List ℕ) (n mode : ℕ) (queues : List ℕ) (scale : ℕ) {f : Report} (screening : f ≡ storedFault bytes n) {r : Found} where

@@ -1,2 +1,2 @@
 -- What the code finds on the way to a query's answer.
-pub mod Asked
+pub mod FoundEntries

@@ -3,8 +3,9 @@ ghost use mathlib.Core.Path.{_≡_};
 ghost use Prim.Native.Nat.{_≤_};
 ghost use Rattle.certificate.specs.Checks.{refusal};
 ghost use Rattle.certificate.specs.Facts.{Readable};
-ghost use Rattle.reading.specs.Laid.{LaidOut};
-ghost use Rattle.asking.specs.Asked.{foundAt, notFound, lookupOf, askedOf};
+ghost use Rattle.reading.specs.ReadingResults.{LaidOut};
+ghost use Rattle.asking.specs.FoundEntries.{foundAt, notFound, cellFound, lookupOf, askedOf};
+ghost use Rattle.certificate.specs.Layout.{maxCells, maxEntries};
 
 mod proper;
 pub mod stored;
@@ -38,7 +39,7 @@ fn not_found(number: u8, mode: u8) -> Found
 
 // What entry e says.
 fn found_at(s: &[u8], layout: reading::Layout, e: usize) -> Found
-    requires { ⌜ LaidOut (now s) layout × (e ≤ 4096) ⌝ }
+    requires { ⌜ LaidOut (now s) layout × (e ≤ maxEntries) ⌝ }
     ensures { λ r. ⌜ r ≡ foundAt (now (s .entry)) e ⌝ }
 {
     let start = layout.entries_start;
@@ -54,6 +55,19 @@ fn found_at(s: &[u8], layout: reading::Layout, e: usize) -> Found
     }
 }
 
+// What is found for a cell in a certificate whose layout is known: what its entry for the mode says, or 19.
+pub fn find_cell(s: &[u8], layout: reading::Layout, mode: u8, cell: usize) -> Found
+    requires { ⌜ LaidOut (now s) layout × Readable (now s) × (cell ≤ maxCells) ⌝ }
+    ensures { λ r. ⌜ r ≡ cellFound (now (s .entry)) mode cell ⌝ }
+{
+    let entries = layout.entries;
+    let e = lookup::find_entry(s, layout.entries_start, entries, cell, mode as usize);
+    if e >= entries {
+        return not_found(19, mode);
+    }
+    found_at(s, layout, e)
+}
+
 // Looks up in a certificate whose layout is known.
 fn look_up(s: &[u8], layout: reading::Layout, mode: u8, queues: &[u32], scale: u32) -> Found
     requires { ⌜ LaidOut (now s) layout × Readable (now s) ⌝ }
@@ -65,12 +79,7 @@ fn look_up(s: &[u8], layout: reading::Layout, mode: u8, queues: &[u32], scale: u
     }
     let places = layout.grids;
     let cell = grid_queues::cell_at(s, &places, links, queues, scale);
-    let entries = layout.entries;
-    let e = lookup::find_entry(s, layout.entries_start, entries, cell, mode as usize);
-    if e >= entries {
-        return not_found(19, mode);
-    }
-    found_at(s, layout, e)
+    find_cell(s, layout, mode, cell)
 }
 
 // Looks up in the first n of the bytes, where they are a certificate.

@@ -3,7 +3,7 @@ ghost use mathlib.Core.Path.{_≡_};
 ghost use Prim.Native.Nat.{_*_, _≤_, _<_};
 ghost use lib.Dec.{leb};
 ghost use Rattle.certificate.specs.Loops.{every};
-ghost use Rattle.certificate.specs.Layout.{linksOf, capOf};
+ghost use Rattle.certificate.specs.Layout.{maxLinks, linksOf, capOf};
 ghost use Rattle.judging.specs.Asking.{queueAt, isProper};
 use certificate::limits;
 use octets::numbers;
@@ -22,7 +22,7 @@ fn queue_at(queues: &[u32], l: usize) -> usize
 
 // No queue is above cap times the scale.
 fn queues_fit(s: &[u8], links: usize, queues: &[u32], scale: u32) -> bool
-    requires { ⌜ links ≤ 8 ⌝ }
+    requires { ⌜ links ≤ maxLinks ⌝ }
     ensures { λ r. ⌜ r ≡ every links (λ l. leb (queueAt (now (queues .entry)) l) (capOf (now (s .entry)) l * scale)) ⌝ }
 {
     let unit = numbers::wide_quad(scale);
@@ -36,7 +36,7 @@ fn queues_fit(s: &[u8], links: usize, queues: &[u32], scale: u32) -> bool
 
 // Scale 1 to 100,000, as many queues as links, and no queue too long.
 pub fn is_proper(s: &[u8], links: usize, queues: &[u32], scale: u32) -> bool
-    requires { ⌜ (links ≤ 8) × (links ≡ linksOf (now s)) ⌝ }
+    requires { ⌜ (links ≤ maxLinks) × (links ≡ linksOf (now s)) ⌝ }
     ensures { λ r. ⌜ r ≡ isProper (now (s .entry)) (now (queues .entry)) scale ⌝ }
 {
     (1 <= scale)

@@ -1,7 +1,7 @@
 // Whether the bytes that a state stores are a certificate.
 ghost use lib.ListN.{take};
-ghost use Rattle.reading.specs.Laid.{ReadAs};
-ghost use Rattle.asking.specs.Asked.{storedFault};
+ghost use Rattle.reading.specs.ReadingResults.{ReadAs};
+ghost use Rattle.asking.specs.FoundEntries.{storedFault};
 
 // Screens the first n of the bytes; refuses where there are fewer.
 pub fn stored_reading(bytes: &[u8], n: usize) -> reading::Reading

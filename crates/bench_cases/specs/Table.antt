@@ -1,5 +1,5 @@
 -- Bench cases P1 to P11 as rows of one table: what is asked, and what is due.
-use Prim.Native.Nat.{ℕ, _+_, _*_}
+use Prim.Native.Nat.{ℕ, _*_}
 use mathlib.Core.List.{List, [], _∷_, List·Memᴰ}
 use mathlib.Core.Path.{_≡_}
 use mathlib.Core.Bool.{cond}
@@ -7,12 +7,15 @@ use lib.ListN.{getD}
 use lib.Dec.{eqb}
 use Rattle.certificate.specs.declared.Report.{Report}
 use Rattle.certificate.specs.Checks.{result, refusal, fine}
+use Rattle.certificate.specs.Layout.{cellOf}
 use Rattle.network.specs.Network.{networkOf, limitOf}
 use Rattle.network.specs.Flow.{next}
 use Rattle.network.specs.Conditions.{screeningOf}
 use Rattle.grid.specs.Successors.{imageLow, imageHigh}
 use Rattle.judging.specs.Verdict.{verdictOf}
-use Rattle.judging.specs.Asking.{cellAsked, lookupFault}
+use Rattle.controller.specs.declared.Shown.{Shown}
+use Rattle.controller.specs.State.{holding}
+use Rattle.controller.specs.Query.{entryAsked, queryOf}
 use Rattle.bench_cases.specs.Papers.{paperOne, paperTwo, paperThree, paperFour, paperFive, twoLinks, redLink, twoIn, fork}
 
 -- what a row asks of a certificate
@@ -25,7 +28,7 @@ pub data Question : Type 0 where
   nextQueue : List ℕ → ℕ → List ℕ → List ℕ → ℕ → Question
   -- the ends of a link's image under signal 0 and arrival box 0: the cell, the link
   image : List ℕ → ℕ → ℕ → Question
-  -- a query in mode 0: the scale, the queues
+  -- a query of the state that holds it, in mode 0: the scale, the queues
   query : List ℕ → ℕ → List ℕ → Question
 
 -- what is due
@@ -35,12 +38,12 @@ pub data Answer : Type 0 where
   queue : ℕ → Answer
   -- the ends of an image, in ten thousandths
   ends : ℕ → ℕ → Answer
-  -- the queues' cell
-  cell : ℕ → Answer
+  -- a query's signal and green byte, and the cell of the entry that it goes by
+  shows : ℕ → ℕ → ℕ → Answer
 
--- the cell of a query that is not refused, else its refusal
-abbrev pub cellOrRefusal : Report → ℕ → Answer
-cellOrRefusal r c = cond (eqb (r .number) 0) (cell c) (report r)
+-- what a query shows, with the cell c of the entry that it goes by; a refused one's report
+abbrev pub shownOrRefusal : Shown → ℕ → Answer
+shownOrRefusal shown c = cond (eqb (shown .report .number) 0) (shows (shown .signal) (shown .green) c) (report (shown .report))
 
 -- the definitions' answer
 unfoldable pub answer : Question → Answer
@@ -48,8 +51,10 @@ answer (verdict s) = report (verdictOf s)
 answer (screening s) = report (screeningOf s)
 answer (nextQueue s scale queues arrivals l) =
     queue (next (networkOf s) (limitOf s 0) scale (λ k. getD queues k 0) (λ k. getD arrivals k 0) l)
-answer (image s c l) = ends (imageLow s 0 0 c l) (imageHigh s 0 0 c l)
-answer (query s scale queues) = cellOrRefusal (lookupFault s 0 queues scale) (cellAsked s queues scale)
+answer (image s c l) = ends (imageLow s (limitOf s 0) 0 c l) (imageHigh s (limitOf s 0) 0 c l)
+-- L has one signal for all cells, so the row also asks which entry the query goes by, and takes its cell
+answer (query s scale queues) =
+    shownOrRefusal (queryOf (holding s) queues scale) (cellOf s (entryAsked (holding s) queues scale))
 
 pub record Row : Type 0 where
   pub asks : Question
@@ -81,10 +86,10 @@ rows =
     -- P9 pulls 50 and 50 hold, 51 and 50 give 10
     ∷ row (screening (twoIn 50 50)) (report fine)
     ∷ row (screening (twoIn 51 50)) (report (result 10 0 2 0))
-    -- P10 over scale 2: queue 9 is cell 0, 10 cell 1, 20 cell 2, 21 gives 16
-    ∷ row (query paperOne 2 (9 ∷ [])) (cell 0)
-    ∷ row (query paperOne 2 (10 ∷ [])) (cell 1)
-    ∷ row (query paperOne 2 (20 ∷ [])) (cell 2)
+    -- P10 over scale 2: queue 9 is cell 0, 10 cell 1, 20 cell 2, 21 gives 16; signal 0 has the green byte 01
+    ∷ row (query paperOne 2 (9 ∷ [])) (shows 0 0x01 0)
+    ∷ row (query paperOne 2 (10 ∷ [])) (shows 0 0x01 1)
+    ∷ row (query paperOne 2 (20 ∷ [])) (shows 0 0x01 2)
     ∷ row (query paperOne 2 (21 ∷ [])) (report (refusal 16 0))
     -- P11 link 1's image is 20 to 24.23
     ∷ row (image fork 9 1) (ends 200000 242300)

@@ -10,7 +10,7 @@ use lib.ListN.{length}
 use lib.Dec.{ltb}
 use Rattle.certificate.specs.declared.Report.{Report}
 use Rattle.certificate.specs.Octets.{_also_}
-use Rattle.certificate.specs.Checks.{refusal, fine, need, orElse, firstBad, opened}
+use Rattle.certificate.specs.Checks.{refusal, fine, need, orElse, firstBad, marked, opened}
 use Rattle.certificate.specs.Layout.{capOf, gridSize, countAt, cutAt, gridAt, intervalsOf}
 use Rattle.certificate.specs.Records.{cutBefore, cutOk, cutFault, countOk, gridFault}
 use Rattle.box_records.specs.GridRecords.{cutsFault}
@@ -48,9 +48,9 @@ module _ (s : List ℕ) (l : ℕ) {o count : ℕ} (here : o ≡ gridAt s l) (man
 
 -- the record of one link
 module _ (s : List ℕ) (l : ℕ) {o : ℕ} (here : o ≡ gridAt s l) where
-  module _ {f : Report} (opening : f ≡ opened s o 71 82 3) where
-    there : f ≡ opened s (gridAt s l) 71 82 3
-    there = opening ∙ rw here
+  module _ {mark : Bool} {f : Report} (bears : mark ≡ marked s o 71 82) (opening : f ≡ opened s o mark 3) where
+    there : f ≡ opened s (gridAt s l) (marked s (gridAt s l) 71 82) 3
+    there = opening ∙ rw (bears, here)
 
     pub grid-unopened : (f .number ≡ 0 → ⊥) → f ≡ gridFault s l
     unfolding gridFault

@@ -3,35 +3,36 @@
 ghost use mathlib.Core.Path.{_≡_};
 ghost use Prim.Native.Nat.{_+_, _*_, _<_, _≤_};
 ghost use Rattle.certificate.specs.Checks.{firstBad};
-ghost use Rattle.certificate.specs.Layout.{linksOf, arrivalsStart, arrivalSize, lowOf, highOf};
+ghost use Rattle.certificate.specs.Layout.{maxLinks, linksOf, arrivalsStart, arrivalSize, lowOf, highOf};
 ghost use Rattle.certificate.specs.Records.{rangeOk, rangeFault, arrivalFault};
+ghost use Rattle.octets.specs.Bounds.{startBound};
 use certificate::Report;
 use certificate::limits;
 
 // Where the record of box b stands.
 pub fn arrival_at(start: usize, links: usize, b: usize) -> usize
-    requires { ⌜ (b < 256) × (links ≤ 8) × (start ≤ 100000) ⌝ }
+    requires { ⌜ (b < 256) × (links ≤ maxLinks) × (start ≤ startBound) ⌝ }
     ensures { λ r. ⌜ (r ≡ start + arrivalSize links * b) × (r ≤ 120000) ⌝ }
 {
     start + (2 + 4 * links) * b
 }
 
 fn low_of(s: &[u8], start: usize, links: usize, b: usize, l: usize) -> usize
-    requires { ⌜ (l < 256) × (b < 256) × (links ≤ 8) × (links ≡ linksOf (now s)) × (start ≤ 100000) × (start ≡ arrivalsStart (now s)) ⌝ }
+    requires { ⌜ (l < 256) × (b < 256) × (links ≤ maxLinks) × (links ≡ linksOf (now s)) × (start ≤ startBound) × (start ≡ arrivalsStart (now s)) ⌝ }
     ensures { λ r. ⌜ (r ≡ lowOf (now (s .entry)) b l) × (r < 65536) ⌝ }
 {
     octets::u16_at(s, arrival_at(start, links, b) + (2 + 4 * l))
 }
 
 fn high_of(s: &[u8], start: usize, links: usize, b: usize, l: usize) -> usize
-    requires { ⌜ (l < 256) × (b < 256) × (links ≤ 8) × (links ≡ linksOf (now s)) × (start ≤ 100000) × (start ≡ arrivalsStart (now s)) ⌝ }
+    requires { ⌜ (l < 256) × (b < 256) × (links ≤ maxLinks) × (links ≡ linksOf (now s)) × (start ≤ startBound) × (start ≡ arrivalsStart (now s)) ⌝ }
     ensures { λ r. ⌜ (r ≡ highOf (now (s .entry)) b l) × (r < 65536) ⌝ }
 {
     octets::u16_at(s, arrival_at(start, links, b) + (4 + 4 * l))
 }
 
 fn range_ok(s: &[u8], start: usize, links: usize, b: usize, l: usize) -> bool
-    requires { ⌜ (l < 256) × (b < 256) × (links ≤ 8) × (links ≡ linksOf (now s)) × (start ≤ 100000) × (start ≡ arrivalsStart (now s)) ⌝ }
+    requires { ⌜ (l < 256) × (b < 256) × (links ≤ maxLinks) × (links ≡ linksOf (now s)) × (start ≤ startBound) × (start ≡ arrivalsStart (now s)) ⌝ }
     ensures { λ r. ⌜ r ≡ rangeOk (now (s .entry)) b l ⌝ }
 {
     let high = high_of(s, start, links, b, l);
@@ -39,7 +40,7 @@ fn range_ok(s: &[u8], start: usize, links: usize, b: usize, l: usize) -> bool
 }
 
 fn check_range(s: &[u8], start: usize, links: usize, b: usize, l: usize) -> Report
-    requires { ⌜ (l < 256) × (b < 256) × (links ≤ 8) × (links ≡ linksOf (now s)) × (start ≤ 100000) × (start ≡ arrivalsStart (now s)) ⌝ }
+    requires { ⌜ (l < 256) × (b < 256) × (links ≤ maxLinks) × (links ≡ linksOf (now s)) × (start ≤ startBound) × (start ≡ arrivalsStart (now s)) ⌝ }
     ensures { λ r. ⌜ r ≡ rangeFault (now (s .entry)) b l ⌝ }
 {
     if !range_ok(s, start, links, b, l) {
@@ -49,7 +50,7 @@ fn check_range(s: &[u8], start: usize, links: usize, b: usize, l: usize) -> Repo
 }
 
 fn check_ranges(s: &[u8], start: usize, links: usize, b: usize) -> Report
-    requires { ⌜ (b < 256) × (links ≤ 8) × (links ≡ linksOf (now s)) × (start ≤ 100000) × (start ≡ arrivalsStart (now s)) ⌝ }
+    requires { ⌜ (b < 256) × (links ≤ maxLinks) × (links ≡ linksOf (now s)) × (start ≤ startBound) × (start ≡ arrivalsStart (now s)) ⌝ }
     ensures { λ r. ⌜ r ≡ firstBad links (rangeFault (now (s .entry)) b) ⌝ }
 {
     for l in 0..links {
@@ -62,10 +63,11 @@ fn check_ranges(s: &[u8], start: usize, links: usize, b: usize) -> Report
 }
 
 fn check_arrival(s: &[u8], start: usize, links: usize, b: usize) -> Report
-    requires { ⌜ (b < 256) × (links ≤ 8) × (links ≡ linksOf (now s)) × (start ≤ 100000) × (start ≡ arrivalsStart (now s)) ⌝ }
+    requires { ⌜ (b < 256) × (links ≤ maxLinks) × (links ≡ linksOf (now s)) × (start ≤ startBound) × (start ≡ arrivalsStart (now s)) ⌝ }
     ensures { λ r. ⌜ r ≡ arrivalFault (now (s .entry)) b ⌝ }
 {
-    let f = octets::check_opened(s, arrival_at(start, links, b), 65, 82, 2 + 4 * links);
+    let o = arrival_at(start, links, b);
+    let f = octets::check_opened(s, o, octets::marked_as(s, o, 65, 82), 2 + 4 * links);
     if f.number != 0 {
         return f;
     }
@@ -73,7 +75,7 @@ fn check_arrival(s: &[u8], start: usize, links: usize, b: usize) -> Report
 }
 
 pub fn check_arrivals(s: &[u8], start: usize, links: usize, boxes: usize) -> Report
-    requires { ⌜ (boxes < 256) × (links ≤ 8) × (links ≡ linksOf (now s)) × (start ≤ 100000) × (start ≡ arrivalsStart (now s)) ⌝ }
+    requires { ⌜ (boxes < 256) × (links ≤ maxLinks) × (links ≡ linksOf (now s)) × (start ≤ startBound) × (start ≡ arrivalsStart (now s)) ⌝ }
     ensures { λ r. ⌜ r ≡ firstBad boxes (arrivalFault (now (s .entry))) ⌝ }
 {
     for b in 0..boxes {

@@ -2,9 +2,10 @@
 ghost use mathlib.Core.Path.{_≡_};
 ghost use Prim.Native.Nat.{_*_, _-_, _<_, _≤_};
 ghost use Rattle.certificate.specs.Checks.{firstBad};
-ghost use Rattle.certificate.specs.Layout.{capOf, gridStart, countAt, cutAt, gridAt, productOf};
+ghost use Rattle.certificate.specs.Layout.{maxCells, maxLinks, capOf, gridStart, countAt, cutAt, gridAt, productOf};
 ghost use Rattle.certificate.specs.Records.{cutFault, countOk, gridFault};
 ghost use Rattle.box_records.specs.GridRecords.{cutsFault, GridsRead};
+ghost use Rattle.octets.specs.Bounds.{gridsBound, startBound};
 use certificate::Report;
 use certificate::limits;
 use road_records::links;
@@ -20,7 +21,7 @@ pub struct Grids {
 
 // How many intervals the record at o has.
 pub fn count_at(s: &[u8], o: usize) -> usize
-    requires { ⌜ o ≤ 100000 ⌝ }
+    requires { ⌜ o ≤ startBound ⌝ }
     ensures { λ r. ⌜ (r ≡ countAt (now (s .entry)) o) × (r < 256) ⌝ }
 {
     octets::byte_at(s, o + 2)
@@ -28,7 +29,7 @@ pub fn count_at(s: &[u8], o: usize) -> usize
 
 // Cut i of the record at o.
 pub fn cut_at(s: &[u8], o: usize, i: usize) -> usize
-    requires { ⌜ (o ≤ 100000) × (i < 256) ⌝ }
+    requires { ⌜ (o ≤ startBound) × (i < 256) ⌝ }
     ensures { λ r. ⌜ (r ≡ cutAt (now (s .entry)) o i) × (r < 65536) ⌝ }
 {
     octets::u16_at(s, o + 3 + 2 * i)
@@ -36,7 +37,7 @@ pub fn cut_at(s: &[u8], o: usize, i: usize) -> usize
 
 // The first n cuts of link l: they ascend, each below the cap.
 fn check_cuts(s: &[u8], l: usize, o: usize, cap: usize, n: usize) -> Report
-    requires { ⌜ (o ≤ 100000) × (n < 256) × (o ≡ gridAt (now s) l) × (cap ≡ capOf (now s) l) ⌝ }
+    requires { ⌜ (o ≤ startBound) × (n < 256) × (o ≡ gridAt (now s) l) × (cap ≡ capOf (now s) l) ⌝ }
     ensures { λ r. ⌜ r ≡ firstBad n (cutFault (now (s .entry)) l) ⌝ }
 {
     let mut before = 0;
@@ -52,7 +53,7 @@ fn check_cuts(s: &[u8], l: usize, o: usize, cap: usize, n: usize) -> Report
 
 // The count of link l, and the product of the counts up to it.
 fn count_ok(s: &[u8], l: usize, o: usize, product: usize) -> bool
-    requires { ⌜ (o ≤ 100000) × (product ≤ 4096) × (o ≡ gridAt (now s) l) × (product ≡ productOf (now s) l) ⌝ }
+    requires { ⌜ (o ≤ startBound) × (product ≤ maxCells) × (o ≡ gridAt (now s) l) × (product ≡ productOf (now s) l) ⌝ }
     ensures { λ r. ⌜ r ≡ countOk (now (s .entry)) l ⌝ }
 {
     let count = count_at(s, o);
@@ -67,7 +68,7 @@ fn one_less(n: usize) -> usize
 
 // The cuts of link l: all present, and in order.
 fn check_cuts_of(s: &[u8], l: usize, o: usize) -> Report
-    requires { ⌜ (l < 256) × (o ≤ 100000) × (o ≡ gridAt (now s) l) ⌝ }
+    requires { ⌜ (l < 256) × (o ≤ startBound) × (o ≡ gridAt (now s) l) ⌝ }
     ensures { λ r. ⌜ r ≡ cutsFault (now (s .entry)) l ⌝ }
 {
     let count = count_at(s, o);
@@ -79,10 +80,10 @@ fn check_cuts_of(s: &[u8], l: usize, o: usize) -> Report
 
 // The record of link l at o; `product` is that of the counts before it.
 fn check_grid(s: &[u8], l: usize, o: usize, product: usize) -> Report
-    requires { ⌜ (l < 256) × (o ≤ 100000) × (product ≤ 4096) × (o ≡ gridAt (now s) l) × (product ≡ productOf (now s) l) ⌝ }
+    requires { ⌜ (l < 256) × (o ≤ startBound) × (product ≤ maxCells) × (o ≡ gridAt (now s) l) × (product ≡ productOf (now s) l) ⌝ }
     ensures { λ r. ⌜ r ≡ gridFault (now (s .entry)) l ⌝ }
 {
-    let f = octets::check_opened(s, o, 71, 82, 3);
+    let f = octets::check_opened(s, o, octets::marked_as(s, o, 71, 82), 3);
     if f.number != 0 {
         return f;
     }
@@ -93,7 +94,7 @@ fn check_grid(s: &[u8], l: usize, o: usize, product: usize) -> Report
 
 // The records of all links, the first at `start`.
 pub fn check_grids(s: &[u8], start: usize, links: usize) -> Grids
-    requires { ⌜ (links ≤ 8) × (start ≤ 50000) × (start ≡ gridStart (now s)) ⌝ }
+    requires { ⌜ (links ≤ maxLinks) × (start ≤ gridsBound) × (start ≡ gridStart (now s)) ⌝ }
     ensures { λ r. ⌜ GridsRead (now (s .entry)) links r ⌝ }
 {
     let mut places = [0usize; limits::MAX_LINKS];

@@ -5,7 +5,7 @@ use mathlib.Core.Path.{_≡_}
 use lib.ListN.{getD}
 use lib.Dec.{ltb}
 use Rattle.certificate.specs.Loops.{pick}
-use Rattle.certificate.specs.Layout.{linksOf, capOf, gridAt, intervalsOf, cellsOf}
+use Rattle.certificate.specs.Layout.{maxLinks, linksOf, capOf, gridAt, intervalsOf, cellsOf}
 use Rattle.certificate.specs.Facts.{Readable}
 use Rattle.grid.specs.Intervals.{lowerEdge, upperEdge}
 use Rattle.grid.specs.Cells.{intervalIn}
@@ -50,11 +50,11 @@ pub record GridOf (s counts weights : List ℕ) (links : ℕ) : Type 0 where
 
 -- the interval of each link in each cell, eight a cell
 abbrev pub DigitsOf : List ℕ → List ℕ → Type 0
-DigitsOf s a = (c l : ℕ) → c < cellsOf s → l < linksOf s → getD a (8 * c + l) 0 ≡ intervalIn s c l
+DigitsOf s a = (c l : ℕ) → c < cellsOf s → l < linksOf s → getD a (maxLinks * c + l) 0 ≡ intervalIn s c l
 
 -- entry k of that table: 0 for a link that does not exist
 unfoldable pub digitEntry : List ℕ → ℕ → ℕ
-digitEntry s k = pick (ltb (k % 8) (linksOf s)) (intervalIn s (k / 8) (k % 8)) 0
+digitEntry s k = pick (ltb (k % maxLinks) (linksOf s)) (intervalIn s (k / maxLinks) (k % maxLinks)) 0
 
 -- each queue of the table x, over scale D, is at most cap
 abbrev pub QueuesFit : List ℕ → ℕ → List ℕ → Type 0

@@ -5,12 +5,13 @@ ghost use Prim.Native.Nat.{_<_};
 ghost use Rattle.certificate.specs.Layout.{cellsOf};
 ghost use Rattle.octets.specs.Tables.{Holds};
 ghost use Rattle.cell_tables.specs.Tables.{GridOf, digitEntry, DigitsOf};
+use certificate::limits;
 
 // Entry k: the interval of link k % 8 in cell k / 8, and 0 for a link that does not exist. The entries before it are filled.
 fn digit_at(
     s: &[u8],
-    counts: &[usize; 8],
-    weights: &[usize; 8],
+    counts: &[usize; limits::MAX_LINKS],
+    weights: &[usize; limits::MAX_LINKS],
     links: usize,
     digits: &[u8; 32768],
     k: usize,
@@ -35,8 +36,8 @@ fn digit_at(
 
 pub fn digits_of(
     s: &[u8],
-    counts: &[usize; 8],
-    weights: &[usize; 8],
+    counts: &[usize; limits::MAX_LINKS],
+    weights: &[usize; limits::MAX_LINKS],
     links: usize,
     cells: usize,
 ) -> [u8; 32768]

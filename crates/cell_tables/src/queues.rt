@@ -4,16 +4,18 @@ ghost use Prim.Native.Nat.{_+_, _*_, _-_, _<_, _≤_};
 ghost use lib.ListN.{length, getD};
 ghost use lib.Dec.{ltb};
 ghost use Rattle.certificate.specs.Loops.{find};
-ghost use Rattle.certificate.specs.Layout.{linksOf, countAt, cutAt, cellsOf};
+ghost use Rattle.certificate.specs.Layout.{maxCells, maxScale, linksOf, countAt, cutAt, cellsOf};
 ghost use Rattle.certificate.specs.Facts.{Readable};
 ghost use Rattle.grid.specs.Cells.{cellAt};
 ghost use Rattle.cell_tables.specs.Tables.{PlacesOf, QueuesFit};
+ghost use Rattle.octets.specs.Bounds.{startBound};
 use box_records::grids;
+use certificate::limits;
 use octets::numbers;
 
 // The interval that holds x over scale, of the link whose grid record starts at o: the first whose upper edge is above x, else the last.
 fn interval_at(s: &[u8], o: usize, scale: usize, x: usize) -> usize
-    requires { ⌜ (o ≤ 100000) × (scale ≤ 100000) ⌝ }
+    requires { ⌜ (o ≤ startBound) × (scale ≤ maxScale) ⌝ }
     ensures { λ r. ⌜ r ≡ find (countAt (now (s .entry)) o - 1) (λ i. ltb x (scale * cutAt (now (s .entry)) o i)) ⌝ }
 {
     let count = grids::count_at(s, o);
@@ -29,15 +31,21 @@ fn interval_at(s: &[u8], o: usize, scale: usize, x: usize) -> usize
 
 // The number of the links so far with one link more, which counts fastest.
 fn with_link(cell: usize, count: usize, i: usize) -> usize
-    requires { ⌜ cell * count + i ≤ 4096 ⌝ }
+    requires { ⌜ cell * count + i ≤ maxCells ⌝ }
     ensures { λ r. ⌜ r ≡ cell * count + i ⌝ }
 {
     i + cell * count
 }
 
 // The number of the cell, the last link fastest.
-pub fn cell_at(s: &[u8], places: &[usize; 8], links: usize, queues: &[u32], scale: u32) -> usize
-    requires { ⌜ Readable (now s) × PlacesOf (now s) (now places) × (links ≡ linksOf (now s)) × (length (now queues) ≡ links) × (scale ≤ 100000) × QueuesFit (now s) scale (now queues) ⌝ }
+pub fn cell_at(
+    s: &[u8],
+    places: &[usize; limits::MAX_LINKS],
+    links: usize,
+    queues: &[u32],
+    scale: u32,
+) -> usize
+    requires { ⌜ Readable (now s) × PlacesOf (now s) (now places) × (links ≡ linksOf (now s)) × (length (now queues) ≡ links) × (scale ≤ maxScale) × QueuesFit (now s) scale (now queues) ⌝ }
     ensures { λ r. ⌜ (r ≡ cellAt (now (s .entry)) scale (λ l. getD (now (queues .entry)) l 0)) × (r < cellsOf (now (s .entry))) ⌝ }
 {
     let unit = numbers::wide_quad(scale);

@@ -1,15 +1,17 @@
 // The edges of every link's intervals, and how many there are. `o` and `places` are where the grid records start.
 ghost use mathlib.Core.Path.{_≡_};
 ghost use Prim.Native.Nat.{_<_, _≤_};
-ghost use Rattle.certificate.specs.Layout.{linksOf, gridAt, cellsOf};
+ghost use Rattle.certificate.specs.Layout.{maxLinks, linksOf, gridAt, cellsOf};
 ghost use Rattle.certificate.specs.Facts.{Readable};
 ghost use Rattle.cell_tables.specs.Tables.{PlacesOf, edgeOf, EdgesOf, CountsOf, WeightsOf};
+ghost use Rattle.octets.specs.Bounds.{startBound};
 use box_records::grids;
+use certificate::limits;
 use road_records::links as link_records;
 
 // Edge i of link l: 0, then the cuts, then cap.
 fn edge_at(s: &[u8], o: usize, l: usize, i: usize) -> usize
-    requires { ⌜ (o ≤ 100000) × (o ≡ gridAt (now s) l) × (l < 8) × (i < 16) ⌝ }
+    requires { ⌜ (o ≤ startBound) × (o ≡ gridAt (now s) l) × (l < maxLinks) × (i < 16) ⌝ }
     ensures { λ r. ⌜ r ≡ edgeOf (now (s .entry)) l i ⌝ }
 {
     if i == 0 {
@@ -22,7 +24,7 @@ fn edge_at(s: &[u8], o: usize, l: usize, i: usize) -> usize
 }
 
 // Sixteen edges a link.
-pub fn edges_of(s: &[u8], places: &[usize; 8], links: usize) -> [usize; 128]
+pub fn edges_of(s: &[u8], places: &[usize; limits::MAX_LINKS], links: usize) -> [usize; 128]
     requires { ⌜ Readable (now s) × PlacesOf (now s) (now places) × (links ≡ linksOf (now s)) ⌝ }
     ensures { λ r. ⌜ EdgesOf (now (s .entry)) r ⌝ }
 {
@@ -35,11 +37,15 @@ pub fn edges_of(s: &[u8], places: &[usize; 8], links: usize) -> [usize; 128]
 }
 
 // How many intervals each link has.
-pub fn counts_of(s: &[u8], places: &[usize; 8], links: usize) -> [usize; 8]
+pub fn counts_of(
+    s: &[u8],
+    places: &[usize; limits::MAX_LINKS],
+    links: usize,
+) -> [usize; limits::MAX_LINKS]
     requires { ⌜ Readable (now s) × PlacesOf (now s) (now places) × (links ≡ linksOf (now s)) ⌝ }
     ensures { λ r. ⌜ CountsOf (now (s .entry)) r ⌝ }
 {
-    let mut counts = [1; 8];
+    let mut counts = [1; limits::MAX_LINKS];
     for l in 0..links {
         counts[l] = grids::count_at(s, places[l]);
     }
@@ -47,11 +53,16 @@ pub fn counts_of(s: &[u8], places: &[usize; 8], links: usize) -> [usize; 8]
 }
 
 // How many cells one interval of each link spans.
-pub fn weights_of(s: &[u8], counts: &[usize; 8], links: usize, cells: usize) -> [usize; 8]
+pub fn weights_of(
+    s: &[u8],
+    counts: &[usize; limits::MAX_LINKS],
+    links: usize,
+    cells: usize,
+) -> [usize; limits::MAX_LINKS]
     requires { ⌜ Readable (now s) × CountsOf (now s) (now counts) × (links ≡ linksOf (now s)) × (cells ≡ cellsOf (now s)) ⌝ }
     ensures { λ r. ⌜ WeightsOf (now (s .entry)) r ⌝ }
 {
-    let mut weights = [1; 8];
+    let mut weights = [1; limits::MAX_LINKS];
     let mut left = cells;
     for l in 0..links {
         left = left / counts[l];

@@ -63,17 +63,27 @@ module _ {s t : List ℕ} (A : Agree s t) where
   pub present : {o p : ℕ} → o ≡ p → o ≤ maxLength → leb o (length s) ≡ leb p (length t)
   present {o} {p} e h = le-leb o (length s) (omega (arith, A .long)) ∙ sym (le-leb p (length t) (omega (arith, A .long')))
 
-  -- a record's mark and its presence
-  pub opened-same : (m k : ℕ) {o p size size' : ℕ} → o ≡ p → size ≡ size' → 2 ≤ size → o + size ≤ maxLength → opened s o m k size ≡ opened t p m k size'
-  unfolding opened marked
-  opened-same m k {o} {p} {size} {size'} e f least h =
+  -- a mark, and a record's mark and its presence
+  pub marked-same : (m k : ℕ) {o p : ℕ} → o ≡ p → o < maxLength → marked s o m k ≡ marked t p m k
+  unfolding marked
+  marked-same m k {o} {p} e h =
       let a : byteAt s o ≡ byteAt t p = byte-same e (omega arith) in
       let b : byteAt s (o + 1) ≡ byteAt t (p + 1) = byte-same (omega arith) (omega arith) in
+      cc
+
+  pub opened-same : {mark mark' : Bool} {o p size size' : ℕ} → mark ≡ mark' → o ≡ p → size ≡ size' → 2 ≤ size → o + size ≤ maxLength → opened s o mark size ≡ opened t p mark' size'
+  unfolding opened
+  opened-same {mark} {mark'} {o} {p} {size} {size'} m e f least h =
       need-same (present (omega arith) (omega arith)) (ap (refusal 1) e)
-      (λ _. need-same (cc) (ap (refusal 2) e)
+      (λ _. need-same m (ap (refusal 2) e)
       (λ _. need-same (present (omega arith) (omega arith)) (ap (refusal 1) e) (λ _. refl)))
 
-  -- a record of one test
+  -- a record of one mark
+  pub marked-opened : (m k : ℕ) {o p size size' : ℕ} → o ≡ p → size ≡ size' → 2 ≤ size → o + size ≤ maxLength
+      → opened s o (marked s o m k) size ≡ opened t p (marked t p m k) size'
+  marked-opened m k e f least h = opened-same (marked-same m k e (omega arith)) e f least h
+
+  -- and of one test
   pub record-same : (m k size n : ℕ) {o p : ℕ} {b c : Bool} → o ≡ p → 2 ≤ size → o + size ≤ maxLength → b ≡ c
-      → orElse (opened s o m k size) (need b (refusal n o) fine) ≡ orElse (opened t p m k size) (need c (refusal n p) fine)
-  record-same m k size n e least h f = or-same (opened-same m k e refl least h) (λ _. need-same f (ap (refusal n) e) (λ _. refl))
+      → orElse (opened s o (marked s o m k) size) (need b (refusal n o) fine) ≡ orElse (opened t p (marked t p m k) size) (need c (refusal n p) fine)
+  record-same m k size n e least h f = or-same (marked-opened m k e refl least h) (λ _. need-same f (ap (refusal n) e) (λ _. refl))

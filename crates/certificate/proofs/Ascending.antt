@@ -9,6 +9,7 @@ use borrow.Author.Tests.{le-ltb, lt-ltb, eq-eqb}
 use lib.Dec.{ltb, eqb}
 use Rattle.certificate.specs.Records.{pairBelow}
 use Rattle.certificate.specs.Facts.{PairBelow}
+use Rattle.certificate.specs.Due.{Above}
 use Rattle.certificate.proofs.Says.{says, ltb-says}
 
 -- a relation that holds of neighbours below n and that joins holds of all pairs below n
@@ -46,19 +47,27 @@ pair-says a b c d = (there (ltb a c) refl, back)
 
 -- a test of each pair against the one before it
 module _ (f g : ℕ → ℕ) (ascends : ℕ → Bool) (first : ascends 0 ≡ true)
-    (next : (t : ℕ) → ascends (suc t) ≡ pairBelow (f t) (g t) (f (suc t)) (g (suc t))) (n : ℕ) where
-  pub pairs-ascend : ((t : ℕ) → t < n → ascends t ≡ true) ↔ ((t u : ℕ) → t < u → u < n → PairBelow (f t) (g t) (f u) (g u))
-  pairs-ascend =
-      (λ h. all-ascend (λ t u. PairBelow (f t) (g t) (f u) (g u)) (λ t u v. below-join _ _ _ _ _ _) n (λ t lt. pair-says _ _ _ _ .0 (rw next at (h (suc t) lt))), back)
+    (next : (t : ℕ) → ascends (suc t) ≡ pairBelow (f t) (g t) (f (suc t)) (g (suc t))) where
+  pub ascends-says : (t : ℕ) → (ascends t ≡ true) ↔ Above f g t
+  ascends-says zero = ((λ _ h e. absurd (omega arith)), (λ _. first))
+  ascends-says (suc t) = (there, (λ above. next t ∙ pair-says _ _ _ _ .1 (above t (omega arith))))
     where
-      back : ((t u : ℕ) → t < u → u < n → PairBelow (f t) (g t) (f u) (g u)) → (t : ℕ) → t < n → ascends t ≡ true
-      back h zero lt = first
-      back h (suc t) lt = next t ∙ pair-says _ _ _ _ .1 (h t (suc t) (omega arith) lt)
+      there : ascends (suc t) ≡ true → Above f g (suc t)
+      there e h last = let same : h ≡ t = omega arith in rw same (pair-says _ _ _ _ .0 (rw next at e))
 
-  -- the first pair passes, and a later one is tested against the one before it
-  pub ascends-first : (t : ℕ) → t ≡ 0 → true ≡ ascends t
-  ascends-first t e = rw (e, first)
+  module _ (n : ℕ) where
+    pub pairs-ascend : ((t : ℕ) → t < n → ascends t ≡ true) ↔ ((t u : ℕ) → t < u → u < n → PairBelow (f t) (g t) (f u) (g u))
+    pairs-ascend =
+        (λ h. all-ascend (λ t u. PairBelow (f t) (g t) (f u) (g u)) (λ t u v. below-join _ _ _ _ _ _) n (λ t lt. pair-says _ _ _ _ .0 (rw next at (h (suc t) lt))), back)
+      where
+        back : ((t u : ℕ) → t < u → u < n → PairBelow (f t) (g t) (f u) (g u)) → (t : ℕ) → t < n → ascends t ≡ true
+        back h zero lt = first
+        back h (suc t) lt = next t ∙ pair-says _ _ _ _ .1 (h t (suc t) (omega arith) lt)
 
-  pub ascends-after : (t : ℕ) → (t ≡ 0 → ⊥) → pairBelow (f (t - 1)) (g (t - 1)) (f t) (g t) ≡ ascends t
-  ascends-after zero h = absurd (h refl)
-  ascends-after (suc t) h = let e : suc t - 1 ≡ t = omega arith in rw (e, next)
+    -- the first pair passes, and a later one is tested against the one before it
+    pub ascends-first : (t : ℕ) → t ≡ 0 → true ≡ ascends t
+    ascends-first t e = rw (e, first)
+
+    pub ascends-after : (t : ℕ) → (t ≡ 0 → ⊥) → pairBelow (f (t - 1)) (g (t - 1)) (f t) (g t) ≡ ascends t
+    ascends-after zero h = absurd (h refl)
+    ascends-after (suc t) h = let e : suc t - 1 ≡ t = omega arith in rw (e, next)

@@ -12,5 +12,11 @@ pub mod Agreement
 pub mod LongFront
 pub mod LongBack
 pub mod LongInput
+pub mod Opening
+pub mod KindOrder
+pub mod Faults
+pub mod FirstFault
+pub mod Refusals
+pub mod Standing
 pub mod Numbers
 pub mod Places

@@ -9,11 +9,11 @@ use borrow.Author.Tests.{leb-true, lt-leb}
 use lib.ListN.{length}
 use Rattle.certificate.specs.Octets.{byteAt}
 use Rattle.certificate.specs.Checks.{refusal}
-use Rattle.certificate.specs.Layout.{maxIntervals, arrivalSize, entrySize, linksOf, boxesOf, entriesOf, capOf, gridStart, gridAt, intervalsOf, cutOf, productOf, cellsOf, arrivalsStart, arrivalAt, lowOf, highOf, entriesStart, entryAt, cellOf, modeOf, signalOf, nextModeOf, endAt}
+use Rattle.certificate.specs.Layout.{maxLinks, maxBoxes, maxEntries, maxIntervals, gridSize, arrivalSize, entrySize, endSize, linksOf, boxesOf, entriesOf, capOf, gridStart, gridAt, intervalsOf, cutOf, productOf, cellsOf, arrivalsStart, arrivalAt, lowOf, highOf, entriesStart, entryAt, cellOf, modeOf, signalOf, nextModeOf, endAt}
 use Rattle.certificate.specs.Records.{cutBefore, cutOk, cutFault, countOk, gridFault, rangeOk, rangeFault, arrivalFault, entryAscends, entryOk, entryFault, endFault}
 use Rattle.certificate.proofs.Tests.{also-both, need-both, or-both}
-use Rattle.certificate.proofs.Agreement.{or-same, need-same, loop-same, Agree, byte-same, u16-same, present, opened-same, record-same}
-use Rattle.certificate.proofs.LongFront.{Counts, links-same, signals-same, modes-same, boxes-same, entries-same, grid-start, grid-most}
+use Rattle.certificate.proofs.Agreement.{or-same, need-same, loop-same, Agree, byte-same, u16-same, present, marked-opened, record-same}
+use Rattle.certificate.proofs.LongFront.{Counts, links-same, signals-same, modes-same, boxes-same, entries-same, gridsMost, grid-start, grid-most}
 
 -- a grid record that passes has at most 15 intervals
 intervals-most : (s : List ℕ) (l : ℕ) → countOk s l ≡ true → intervalsOf s l ≤ maxIntervals
@@ -24,10 +24,20 @@ pub grid-passes : (s : List ℕ) (l : ℕ) → gridFault s l .number ≡ 0 → i
 unfolding gridFault
 grid-passes s l z = intervals-most s l (need-both _ _ _ (λ e. omega arith) (or-both _ _ z .1) .0)
 
+-- the greatest offsets at which AR, EN and ZZ may start
+abbrev arrivalsMost : ℕ
+arrivalsMost = gridsMost + maxLinks * gridSize maxIntervals
+
+abbrev entriesMost : ℕ
+entriesMost = arrivalsMost + maxBoxes * arrivalSize maxLinks
+
+abbrev endMost : ℕ
+endMost = entriesMost + maxEntries * entrySize
+
 module _ {s t : List ℕ} (A : Agree s t) (C : Counts s) where
   -- the grid record of link l, where each before it has at most 15 intervals
   module _ (l : ℕ) (inside : l ≤ linksOf s) (few : (j : ℕ) → j < l → intervalsOf s j ≤ maxIntervals) where
-    grid-below : (k : ℕ) → k ≤ l → gridAt s k ≤ gridStart s + 31 * k
+    grid-below : (k : ℕ) → k ≤ l → gridAt s k ≤ gridStart s + gridSize maxIntervals * k
     unfolding gridAt
     grid-below zero h = omega arith
     grid-below (suc k) h = omega (arith, grid-below k (omega arith), few k h)
@@ -63,9 +73,9 @@ module _ {s t : List ℕ} (A : Agree s t) (C : Counts s) where
     unfolding gridFault countOk
     grid-same lt =
         let e : gridAt s l ≡ gridAt t l = grid-place l (omega arith) in
-        let b : gridAt s l ≤ gridStart s + 31 * l = grid-below l (omega arith) in
+        let b : gridAt s l ≤ gridStart s + gridSize maxIntervals * l = grid-below l (omega arith) in
         let c : intervalsOf s l ≡ intervalsOf t l = count-same l (omega arith) e in
-        or-same (opened-same A _ _ e refl (omega arith) (omega (arith, grid-most A C, C .links)))
+        or-same (marked-opened A _ _ e refl (omega arith) (omega (arith, grid-most A C, C .links)))
         (λ _. need-same (count-ok c) (ap (refusal 7) e)
         (λ ok. let few' : intervalsOf s l ≤ maxIntervals = intervals-most s l ok in
         need-same (present A (omega arith) (omega (arith, grid-most A C, C .links))) (ap (refusal 1) e)
@@ -81,23 +91,23 @@ module _ {s t : List ℕ} (A : Agree s t) (C : Counts s) where
     unfolding arrivalsStart
     arrivals-start = grid-place (linksOf s) (omega arith) few (linksOf s) (omega arith) ∙ ap (gridAt t) (links-same A)
 
-    arrivals-most : arrivalsStart s ≤ 625
+    arrivals-most : arrivalsStart s ≤ arrivalsMost
     unfolding arrivalsStart
     arrivals-most = omega (arith, grid-below (linksOf s) (omega arith) few (linksOf s) (omega arith), grid-most A C, C .links)
 
     arrival-place : (b : ℕ) → arrivalAt s b ≡ arrivalAt t b
     arrival-place b = cc (arrivals-start, links-same A)
 
-    arrival-below : (b : ℕ) → arrivalAt s b ≤ 625 + 34 * b
+    arrival-below : (b : ℕ) → arrivalAt s b ≤ arrivalsMost + arrivalSize maxLinks * b
     arrival-below b =
-        let size : arrivalSize (linksOf s) * b ≤ 34 * b = mul-le-mul-right b (omega (arith, C .links)) in
+        let size : arrivalSize (linksOf s) * b ≤ arrivalSize maxLinks * b = mul-le-mul-right b (omega (arith, C .links)) in
         omega (arith, arrivals-most)
 
     range-same : (b l : ℕ) → b < boxesOf s → l < linksOf s → rangeFault s b l ≡ rangeFault t b l
     unfolding rangeFault rangeOk
     range-same b l h lt =
         let e : arrivalAt s b ≡ arrivalAt t b = arrival-place b in
-        let m : arrivalAt s b ≤ 625 + 34 * b = arrival-below b in
+        let m : arrivalAt s b ≤ arrivalsMost + arrivalSize maxLinks * b = arrival-below b in
         let low : lowOf s b l ≡ lowOf t b l = u16-same A (omega arith) (omega (arith, C .links, C .boxes)) in
         let high : highOf s b l ≡ highOf t b l = u16-same A (omega arith) (omega (arith, C .links, C .boxes)) in
         need-same (cc) (ap (refusal 8) e) (λ _. refl)
@@ -105,7 +115,7 @@ module _ {s t : List ℕ} (A : Agree s t) (C : Counts s) where
     pub arrival-same : (b : ℕ) → b < boxesOf s → arrivalFault s b ≡ arrivalFault t b
     unfolding arrivalFault
     arrival-same b h =
-        or-same (opened-same A _ _ (arrival-place b) (omega (arith, links-same A)) (omega arith) (omega (arith, arrival-below b, C .links, C .boxes)))
+        or-same (marked-opened A _ _ (arrival-place b) (omega (arith, links-same A)) (omega arith) (omega (arith, arrival-below b, C .links, C .boxes)))
         (λ _. loop-same (links-same A) (λ l lt _. range-same b l h lt))
 
     -- where the entries start, and at most where
@@ -113,7 +123,7 @@ module _ {s t : List ℕ} (A : Agree s t) (C : Counts s) where
     unfolding entriesStart
     entries-start = arrival-place (boxesOf s) ∙ ap (arrivalAt t) (boxes-same A)
 
-    entries-most : entriesStart s ≤ 897
+    entries-most : entriesStart s ≤ entriesMost
     unfolding entriesStart
     entries-most = omega (arith, arrival-below (boxesOf s), C .boxes)
 
@@ -146,9 +156,9 @@ module _ {s t : List ℕ} (A : Agree s t) (C : Counts s) where
     unfolding endFault endAt
     end-same =
         let e : endAt s ≡ endAt t = omega (arith, entries-start, entries-same A) in
-        let m : endAt s ≤ 37761 = omega (arith, entries-most, C .entries) in
-        or-same (opened-same A _ _ e refl (omega arith) (omega arith))
+        let m : endAt s ≤ endMost = omega (arith, entries-most, C .entries) in
+        or-same (marked-opened A _ _ e refl (omega arith) (omega arith))
         (λ _. need-same
-        (lt-leb (length s) (endAt s + 2) (omega (arith, A .long)) ∙ sym (lt-leb (length t) (endAt t + 2) (omega (arith, A .long'))))
-        (ap (λ (o : ℕ). refusal 2 (o + 2)) e)
+        (lt-leb (length s) (endAt s + endSize) (omega (arith, A .long)) ∙ sym (lt-leb (length t) (endAt t + endSize) (omega (arith, A .long'))))
+        (ap (λ (o : ℕ). refusal 2 (o + endSize)) e)
         (λ _. refl))

@@ -1,5 +1,5 @@
 -- The records HD, LK, TN and SG are tested alike in two byte strings that agree up to the greatest length. Assumes nothing.
-use Prim.Native.Nat.{ℕ, zero, suc, _+_, _≤_, _<_}
+use Prim.Native.Nat.{ℕ, zero, suc, _+_, _*_, _≤_, _<_}
 use mathlib.Core.List.{List}
 use mathlib.Core.Bool.{Bool, true}
 use mathlib.Core.Path.{_≡_, refl}
@@ -7,7 +7,7 @@ use native.Mathlib.Omega.{arith}
 use borrow.Author.Tests.{leb-true, ltb-true}
 use lib.Dec.{ltb, eqb}
 use Rattle.certificate.specs.Octets.{byteAt, _also_}
-use Rattle.certificate.specs.Layout.{maxLinks, maxTurns, maxSignals, maxBoxes, maxEntries, linksOf, turnsOf, signalsOf, modesOf, boxesOf, entriesOf, tailOf, headOf, capOf, flowOf, safeOf, goalOf, turnSize, turnsStart, turnAt, fromOf, toOf, shareOf, pullOf, signalsStart, greenByteOf, gridStart}
+use Rattle.certificate.specs.Layout.{maxLinks, maxTurns, maxSignals, maxBoxes, maxEntries, headerSize, linkSize, turnSize, signalSize, linksOf, turnsOf, signalsOf, modesOf, boxesOf, entriesOf, tailOf, headOf, capOf, flowOf, safeOf, goalOf, turnsStart, turnAt, fromOf, toOf, shareOf, pullOf, signalsStart, greenByteOf, gridStart}
 use Rattle.certificate.specs.Records.{headerOk, headerFault, linkOk, linkFault, turnAscends, shareTotal, turnOk, turnFault, signalOk, signalFault}
 use Rattle.certificate.proofs.Tests.{also-both, need-both, or-both}
 use Rattle.certificate.proofs.Loops.{sum-same}
@@ -36,6 +36,16 @@ counts s z =
       boxes = leb-true _ _ (b .1);
       entries = leb-true _ _ (a .1);
     }
+
+-- the greatest offsets at which TN, SG and GR may start
+abbrev turnsMost : ℕ
+turnsMost = headerSize + maxLinks * linkSize
+
+abbrev signalsMost : ℕ
+signalsMost = turnsMost + maxTurns * turnSize
+
+abbrev pub gridsMost : ℕ
+gridsMost = signalsMost + maxSignals * signalSize
 
 -- the links that turn k names exist
 abbrev exist : List ℕ → ℕ → Bool
@@ -85,7 +95,7 @@ module _ {s t : List ℕ} (A : Agree s t) where
     unfolding turnsStart
     turns-start = rw links-same
 
-    turns-most : turnsStart s ≤ 105
+    turns-most : turnsStart s ≤ turnsMost
     unfolding turnsStart
     turns-most = omega (arith, C .links)
 
@@ -137,7 +147,7 @@ module _ {s t : List ℕ} (A : Agree s t) where
     unfolding signalsStart
     signals-start = omega (arith, turns-start, turns-same)
 
-    signals-most : signalsStart s ≤ 329
+    signals-most : signalsStart s ≤ signalsMost
     unfolding signalsStart
     signals-most = omega (arith, turns-most, C .turns)
 
@@ -152,6 +162,6 @@ module _ {s t : List ℕ} (A : Agree s t) where
     unfolding gridStart
     grid-start = omega (arith, signals-start, signals-same)
 
-    pub grid-most : gridStart s ≤ 377
+    pub grid-most : gridStart s ≤ gridsMost
     unfolding gridStart
     grid-most = omega (arith, signals-most, C .signals)

@@ -7,18 +7,18 @@ use native.Mathlib.Nat.{eq-or-lt-of-le, add-mul}
 use native.Mathlib.Omega.{arith}
 use borrow.Author.Tests.{leb-true, leb-false}
 use lib.Dec.{leb}
-use Rattle.certificate.specs.Loops.{pick, sumTo, everyOf, everyFrom, every, firstOfThese, findFrom, find, turns, from}
+use Rattle.certificate.specs.Loops.{pick, sumTo, everyOf, everyFrom, every, firstOfThese, findFrom, find, rounds, loopFrom}
 use Rattle.certificate.proofs.Tests.{and-both, both-and}
 
--- one turn of a loop that carries a state, and its end
+-- one round of a loop that carries a state, and its end
 module _ {S R : Type 0} where
-  pub from-turn : (turn : ℕ → S → (S → R) → R) (done : S → R) (n i : ℕ) (s : S) → i < n → from turn done n i s ≡ turn i s (from turn done n (i + 1))
-  unfolding from turns
-  from-turn turn done n i s h = let e : n - i ≡ suc (n - (i + 1)) = omega arith in rw e
+  pub loop-round : (round : ℕ → S → (S → R) → R) (done : S → R) (n i : ℕ) (s : S) → i < n → loopFrom round done n i s ≡ round i s (loopFrom round done n (i + 1))
+  unfolding loopFrom rounds
+  loop-round round done n i s h = let e : n - i ≡ suc (n - (i + 1)) = omega arith in rw e
 
-  pub from-end : (turn : ℕ → S → (S → R) → R) (done : S → R) (n i : ℕ) (s : S) → n ≤ i → from turn done n i s ≡ done s
-  unfolding from turns
-  from-end turn done n i s h = let e : n - i ≡ 0 = omega arith in rw e
+  pub loop-end : (round : ℕ → S → (S → R) → R) (done : S → R) (n i : ℕ) (s : S) → n ≤ i → loopFrom round done n i s ≡ done s
+  unfolding loopFrom rounds
+  loop-end round done n i s h = let e : n - i ≡ 0 = omega arith in rw e
 
 -- every index passes the test, one by one
 of-every : (p : ℕ → Bool) (m i k : ℕ) → everyOf p m i ≡ true → i ≤ k → k < i + m → p k ≡ true

@@ -62,45 +62,45 @@ module _ (n : ℕ) where
       reached (suc k) before = next k (before k (omega arith))
 
 module _ (s : List ℕ) where
-  opened-fits : (o m k size : ℕ) → o ≤ length s → Fits (length s) (opened s o m k size)
+  opened-fits : (o : ℕ) (mark : Bool) (size : ℕ) → o ≤ length s → Fits (length s) (opened s o mark size)
   unfolding opened
-  opened-fits o m k size h =
+  opened-fits o mark size h =
       need-fits _ _ (refusal-fits _ 1 o h) (need-fits _ _ (refusal-fits _ 2 o h) (test-fits _ _ 1 o h))
 
   -- a record at o that is opened and then tested
-  record-fits : (o m k size : ℕ) (b : Bool) (number : ℕ) → o ≤ length s → Fits (length s) (orElse (opened s o m k size) (need b (refusal number o) fine))
-  record-fits o m k size b number h = or-fits _ (opened-fits o m k size h) (λ _. test-fits _ b number o h)
+  record-fits : (o : ℕ) (mark : Bool) (size : ℕ) (b : Bool) (number : ℕ) → o ≤ length s → Fits (length s) (orElse (opened s o mark size) (need b (refusal number o) fine))
+  record-fits o mark size b number h = or-fits _ (opened-fits o mark size h) (λ _. test-fits _ b number o h)
 
   grid-fits : (l : ℕ) → gridAt s l ≤ length s → Fits (length s) (gridFault s l)
   unfolding gridFault cutFault
   grid-fits l h =
-      or-fits _ (opened-fits _ _ _ _ h) (λ _.
+      or-fits _ (opened-fits _ _ _ h) (λ _.
       need-fits _ _ (refusal-fits _ 7 _ h)
       (need-fits _ _ (refusal-fits _ 1 _ h)
       (first-fits _ _ _ (λ i _ _. test-fits _ _ 7 _ h))))
 
   box-fits : (b : ℕ) → arrivalAt s b ≤ length s → Fits (length s) (arrivalFault s b)
   unfolding arrivalFault rangeFault
-  box-fits b h = or-fits _ (opened-fits _ _ _ _ h) (λ _. first-fits _ _ _ (λ l _ _. test-fits _ _ 8 _ h))
+  box-fits b h = or-fits _ (opened-fits _ _ _ h) (λ _. first-fits _ _ _ (λ l _ _. test-fits _ _ 8 _ h))
 
   header-fits : Stretch (length s) (headerFault s) headerSize
   unfolding headerFault
-  header-fits = record { fits = record-fits 0 _ _ _ _ _ (omega arith); after = λ z. omega (arith, header-says s .0 z .0) }
+  header-fits = record { fits = record-fits 0 _ _ _ _ (omega arith); after = λ z. omega (arith, header-says s .0 z .0) }
 
   links-fit : headerSize ≤ length s → Stretch (length s) (linksFault s) (turnsStart s)
   unfolding linksFault linkFault turnsStart
   links-fit h =
-      records-fit _ (linksOf s) (linkFault s) linkAt (omega arith) (λ l z. omega (arith, link-says s l .0 z .0)) (λ l. record-fits (linkAt l) _ _ _ _ _)
+      records-fit _ (linksOf s) (linkFault s) linkAt (omega arith) (λ l z. omega (arith, link-says s l .0 z .0)) (λ l. record-fits (linkAt l) _ _ _ _)
 
   turns-fit : turnsStart s ≤ length s → Stretch (length s) (turnsFault s) (signalsStart s)
   unfolding turnsFault turnFault signalsStart
   turns-fit h =
-      records-fit _ (turnsOf s) (turnFault s) (turnAt s) (omega arith) (λ t z. omega (arith, turn-says s t .0 z .0)) (λ t. record-fits (turnAt s t) _ _ _ _ _)
+      records-fit _ (turnsOf s) (turnFault s) (turnAt s) (omega arith) (λ t z. omega (arith, turn-says s t .0 z .0)) (λ t. record-fits (turnAt s t) _ _ _ _)
 
   signals-fit : signalsStart s ≤ length s → Stretch (length s) (signalsFault s) (gridStart s)
   unfolding signalsFault signalFault gridStart
   signals-fit h =
-      records-fit _ (signalsOf s) (signalFault s) (signalAt s) (omega arith) (λ g z. omega (arith, signal-says s g .0 z .0)) (λ g. record-fits (signalAt s g) _ _ _ _ _)
+      records-fit _ (signalsOf s) (signalFault s) (signalAt s) (omega arith) (λ g z. omega (arith, signal-says s g .0 z .0)) (λ g. record-fits (signalAt s g) _ _ _ _)
 
   grids-fit : gridStart s ≤ length s → Stretch (length s) (gridsFault s) (arrivalsStart s)
   unfolding gridsFault arrivalsStart gridAt
@@ -114,11 +114,11 @@ module _ (s : List ℕ) where
   entries-fit : entriesStart s ≤ length s → Stretch (length s) (entriesFault s) (endAt s)
   unfolding entriesFault entryFault endAt
   entries-fit h =
-      records-fit _ (entriesOf s) (entryFault s) (entryAt s) (omega arith) (λ e z. omega (arith, entry-says s e .0 z .0)) (λ e. record-fits (entryAt s e) _ _ _ _ _)
+      records-fit _ (entriesOf s) (entryFault s) (entryAt s) (omega arith) (λ e z. omega (arith, entry-says s e .0 z .0)) (λ e. record-fits (entryAt s e) _ _ _ _)
 
   end-fits : endAt s ≤ length s → Fits (length s) (endFault s)
   unfolding endFault
-  end-fits h = or-fits _ (opened-fits _ _ _ _ h) (λ z. test-fits _ _ 2 _ (opened-says s (endAt s) 90 90 endSize refl .0 z .0))
+  end-fits h = or-fits _ (opened-fits _ _ _ h) (λ z. test-fits _ _ 2 _ (opened-says s (endAt s) _ endSize refl .0 z .0))
 
   reading-fits : Fits (length s) (readingOf s)
   unfolding readingOf

@@ -44,14 +44,20 @@ first-says n f = (all-fine n f, λ h. rw (fine-all n f h))
 -- tests of bytes and numbers, and how tests follow one another
 pub ruleset tests-say = (leb-says, ltb-says, eqb-says, differ-says, and-says, also-says, need-says, or-says, first-says)
 
+pub marked-says : (s : List ℕ) (o m k : ℕ) → (marked s o m k ≡ true) ↔ Mark s o m k
+unfolding marked
+marked-says s o m k = simp tests-say (omega arith)
+
 -- a record that opens is there whole, and bears its mark
-pub opened-says : (s : List ℕ) (o m k size : ℕ) → leb 2 size ≡ true → (opened s o m k size .number ≡ 0) ↔ ((o + size ≤ length s) × Mark s o m k)
-unfolding opened marked
-opened-says s o m k size z = let h : 2 ≤ size = leb-true _ _ z in simp tests-say (omega arith)
-
-pub opened-fine : (s : List ℕ) (o m k size : ℕ) → 2 ≤ size → o + size ≤ length s → marked s o m k ≡ true → opened s o m k size ≡ fine
+pub opened-says : (s : List ℕ) (o : ℕ) (mark : Bool) (size : ℕ) → leb 2 size ≡ true → (opened s o mark size .number ≡ 0) ↔ ((o + size ≤ length s) × (mark ≡ true))
 unfolding opened
-opened-fine s o m k size two whole mark =
-    rw (le-leb (o + 2) (length s) (omega arith), mark, le-leb (o + size) (length s) whole, need-pass true (refusal 1 o) (need true (refusal 2 o) (need true (refusal 1 o) fine)) refl, need-pass true (refusal 2 o) (need true (refusal 1 o) fine) refl, need-pass true (refusal 1 o) fine refl)
+opened-says s o mark size z =
+    let h : 2 ≤ size = leb-true _ _ z in
+    simp tests-say (λ p. (p .1 .1 .0, p .1 .0), λ p. (omega arith, (p .1, (p .0, refl))))
 
-pub ruleset says = (tests-say, opened-says)
+pub opened-fine : (s : List ℕ) (o : ℕ) (mark : Bool) (size : ℕ) → 2 ≤ size → o + size ≤ length s → mark ≡ true → opened s o mark size ≡ fine
+unfolding opened
+opened-fine s o mark size two whole yes′ =
+    rw (le-leb (o + 2) (length s) (omega arith), yes′, le-leb (o + size) (length s) whole, need-pass true (refusal 1 o) (need true (refusal 2 o) (need true (refusal 1 o) fine)) refl, need-pass true (refusal 2 o) (need true (refusal 1 o) fine) refl, need-pass true (refusal 1 o) fine refl)
+
+pub ruleset says = (tests-say, marked-says, opened-says)

@@ -44,10 +44,10 @@ firstBad n f = firstFrom n f 0
 unfoldable pub marked : List ℕ → ℕ → ℕ → ℕ → Bool
 marked s o m k = eqb (byteAt s o) m && eqb (byteAt s (o + 1)) k
 
--- the record at o: mark present (1), mark right (2), record whole (1)
-unfoldable pub opened : List ℕ → ℕ → ℕ → ℕ → ℕ → Report
-opened s o m k size =
+-- the record at o: mark present (1), mark right (2), record whole (1); `mark` is whether its mark is right
+unfoldable pub opened : List ℕ → ℕ → Bool → ℕ → Report
+opened s o mark size =
     need (leb (o + 2) (length s)) (refusal 1 o)
-    (need (marked s o m k) (refusal 2 o)
+    (need mark (refusal 2 o)
     (need (leb (o + size) (length s)) (refusal 1 o)
     fine))

@@ -7,7 +7,7 @@ use lib.ListN.{length}
 use lib.Dec.{eqb}
 use Rattle.certificate.specs.Octets.{byteAt}
 use Rattle.certificate.specs.Loops.{pick, sumTo}
-use Rattle.certificate.specs.Layout.{maxLinks, maxTurns, maxSignals, maxModes, maxBoxes, maxEntries, maxCap, maxPull, maxArrival, maxIntervals, maxCells, maxLength, endSize, linksOf, turnsOf, signalsOf, modesOf, boxesOf, entriesOf, linkAt, tailOf, headOf, capOf, flowOf, safeOf, goalOf, turnAt, fromOf, toOf, shareOf, pullOf, signalAt, greenByteOf, gridAt, intervalsOf, cutOf, productOf, cellsOf, arrivalAt, lowOf, highOf, entryAt, cellOf, modeOf, signalOf, nextModeOf, endAt}
+use Rattle.certificate.specs.Layout.{maxLinks, maxTurns, maxSignals, maxModes, maxBoxes, maxEntries, maxCap, maxShare, maxPull, maxArrival, maxIntervals, maxCells, maxLength, endSize, linksOf, turnsOf, signalsOf, modesOf, boxesOf, entriesOf, linkAt, tailOf, headOf, capOf, flowOf, safeOf, goalOf, turnAt, fromOf, toOf, shareOf, pullOf, signalAt, greenByteOf, gridAt, intervalsOf, cutOf, productOf, cellsOf, arrivalAt, lowOf, highOf, entryAt, cellOf, modeOf, signalOf, nextModeOf, endAt}
 
 -- the mark at offset o is m and k
 pub record Mark (s : List ℕ) (o m k : ℕ) : Type 0 where
@@ -49,7 +49,7 @@ pub record TurnFacts (s : List ℕ) (t : ℕ) : Type 0 where
   pub to-link : toOf s t < linksOf s
   pub joined : headOf s (fromOf s t) ≡ tailOf s (toOf s t)
   pub share-least : 1 ≤ shareOf s t
-  pub share-most : shareOf s t ≤ 100
+  pub share-most : shareOf s t ≤ maxShare
   pub pull-least : 1 ≤ pullOf s t
   pub pull-most : pullOf s t ≤ maxPull
 
@@ -86,7 +86,7 @@ pub record Readable (s : List ℕ) : Type 0 where
   -- pairs (from, to) strictly ascend
   pub turns-ascend : (t u : ℕ) → t < u → u < turnsOf s → PairBelow (fromOf s t) (toOf s t) (fromOf s u) (toOf s u)
   -- shares from one link total at most 100
-  pub shares : (l : ℕ) → sumTo (turnsOf s) (λ t. pick (eqb (fromOf s t) l) (shareOf s t) 0) ≤ 100
+  pub shares : (l : ℕ) → sumTo (turnsOf s) (λ t. pick (eqb (fromOf s t) l) (shareOf s t) 0) ≤ maxShare
   pub signal : (g : ℕ) → g < signalsOf s → SignalFacts s g
   pub grid : (l : ℕ) → l < linksOf s → GridFacts s l
   pub box : (b : ℕ) → b < boxesOf s → BoxFacts s b

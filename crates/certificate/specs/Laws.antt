@@ -1,13 +1,16 @@
 -- What is proved of reading (proofs/ of this crate). Statements only.
-use Prim.Native.Nat.{ℕ, _+_, _≤_}
+use Prim.Native.Nat.{ℕ, _+_, _≤_, _<_}
 use mathlib.Core.List.{List}
 use mathlib.Core.Path.{_≡_}
-use mathlib.Core.Logic.{_↔_}
+use mathlib.Core.Logic.{_↔_, _⊎_}
 use lib.ListN.{length, take}
-use Rattle.certificate.specs.Layout.{maxLength, cellsOf, maxCells}
+use Rattle.certificate.specs.declared.Report.{Report}
+use Rattle.certificate.specs.Layout.{maxLength, endSize, cellsOf, maxCells, endAt}
 use Rattle.certificate.specs.Reading.{readingOf}
-use Rattle.certificate.specs.Checks.{fine}
-use Rattle.certificate.specs.Facts.{Readable}
+use Rattle.certificate.specs.Checks.{result, fine}
+use Rattle.certificate.specs.Facts.{Mark, Readable}
+use Rattle.certificate.specs.Fields.{Stand, certificateFields}
+use Rattle.certificate.specs.Due.{Kind, HD, LK, TN, SG, GR, AR, EN, ZZ, fieldNumber, recordAt, Due, TooShort, WrongMark, BrokenLine}
 
 -- reading finds nothing to refuse exactly if every line of the layout holds
 abbrev pub ReadingIsPlain : Type 0
@@ -16,6 +19,10 @@ ReadingIsPlain = (s : List ℕ) → (readingOf s .number ≡ 0) ↔ Readable s
 -- success is a result with no places and no count
 abbrev pub ReadingIsFine : Type 0
 ReadingIsFine = (s : List ℕ) → readingOf s .number ≡ 0 → readingOf s ≡ fine
+
+-- a readable certificate is the fields of the layout, one after another, and nothing else
+abbrev pub FieldsStand : Type 0
+FieldsStand = (s : List ℕ) → Readable s → Stand s 0 (certificateFields s) (length s)
 
 -- a readable certificate has at least one cell and at most 4,096
 abbrev pub CellsInRange : Type 0
@@ -29,6 +36,54 @@ ReadableFits = (s : List ℕ) → Readable s → length s ≤ maxLength
 abbrev pub LongInput : Type 0
 LongInput = (s : List ℕ) → readingOf s ≡ readingOf (take (maxLength + 1) s)
 
+-- the numbers of reading: 0 for success, and refusals 1 to 9
+pub data ReadingNumber (n : ℕ) : Type 0 where
+  up-to-nine : n ≤ 9 → ReadingNumber n
+
+-- reading answers with no other number
+abbrev pub ReadingNumbers : Type 0
+ReadingNumbers = (s : List ℕ) → ReadingNumber (readingOf s .number)
+
 -- a place of reading lies within the byte string or at its end: place A is at most its length, and there is no place B
 abbrev pub PlaceFits : Type 0
 PlaceFits = (s : List ℕ) → (readingOf s .a ≤ length s) × (readingOf s .b ≡ 0)
+
+-- Refused with number and place exactly if that test fails and none before it in the stated order does. What answers is reading here, and the
+-- verdict in crate judging.
+
+-- the record that is due has this fault, and starts at a
+abbrev pub DueAt : (List ℕ → Kind → ℕ → Type 0) → List ℕ → ℕ → Type 0
+DueAt Fault s a = (k : Kind) × (i : ℕ) × Due s k i × Fault s k i × (a ≡ recordAt s k i)
+
+-- 1: fewer bytes than the due record or its mark needs
+abbrev pub RefusedShort : (List ℕ → Report) → Type 0
+RefusedShort answer = (s : List ℕ) (a b n : ℕ) → (answer s ≡ result 1 a b n) ↔ (DueAt TooShort s a × (b ≡ 0) × (n ≡ 0))
+
+-- all records are right, and after ZZ stands a byte, at a
+abbrev pub GoesOnAt : List ℕ → ℕ → Type 0
+GoesOnAt s a = Due s ZZ 0 × Mark s (endAt s) 90 90 × (endAt s + endSize < length s) × (a ≡ endAt s + endSize)
+
+-- 2: wrong mark, or a byte after ZZ
+abbrev pub RefusedMark : (List ℕ → Report) → Type 0
+RefusedMark answer = (s : List ℕ) (a b n : ℕ) → (answer s ≡ result 2 a b n) ↔ ((DueAt WrongMark s a ⊎ GoesOnAt s a) × (b ≡ 0) × (n ≡ 0))
+
+-- 3 to 9: a field of a record of kind k breaks its line
+abbrev pub RefusedField : Kind → (List ℕ → Report) → Type 0
+RefusedField k answer =
+    (s : List ℕ) (a b n : ℕ)
+    → (answer s ≡ result (fieldNumber k) a b n) ↔ (((i : ℕ) × Due s k i × BrokenLine s k i × (a ≡ recordAt s k i)) × (b ≡ 0) × (n ≡ 0))
+
+-- all of them
+pub record Refusals (answer : List ℕ → Report) : Type 0 where
+  pub short : RefusedShort answer
+  pub mark : RefusedMark answer
+  pub header : RefusedField HD answer
+  pub link : RefusedField LK answer
+  pub turn : RefusedField TN answer
+  pub signal : RefusedField SG answer
+  pub grid : RefusedField GR answer
+  pub arrival : RefusedField AR answer
+  pub entry : RefusedField EN answer
+
+abbrev pub ReadingRefuses : Type 0
+ReadingRefuses = Refusals readingOf

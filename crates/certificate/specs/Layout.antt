@@ -26,8 +26,16 @@ maxEntries = 4096
 abbrev pub maxCap : ℕ
 maxCap = 10000
 
+-- of a share, and of all shares from one link, in hundredths
+abbrev pub maxShare : ℕ
+maxShare = 100
+
 abbrev pub maxPull : ℕ
 maxPull = 10000
+
+-- of the sum of share × pull over the turns into a link (condition 10)
+abbrev pub maxPullSum : ℕ
+maxPullSum = 10000
 
 abbrev pub maxArrival : ℕ
 maxArrival = 10000
@@ -37,6 +45,10 @@ maxIntervals = 15
 
 abbrev pub maxCells : ℕ
 maxCells = 4096
+
+-- of a query's scale
+abbrev pub maxScale : ℕ
+maxScale = 100000
 
 -- The sizes of the records, marks included. A GR holds a mark, a count and one cut fewer than its count.
 abbrev pub headerSize : ℕ

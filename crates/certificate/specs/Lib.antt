@@ -6,4 +6,6 @@ pub mod Layout
 pub mod Records
 pub mod Reading
 pub mod Facts
+pub mod Due
+pub mod Fields
 pub mod Laws

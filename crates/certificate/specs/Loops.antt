@@ -38,14 +38,14 @@ findFrom n p i = firstOfThese p (n - i) i
 abbrev pub find : ℕ → (ℕ → Bool) → ℕ
 find n p = findFrom n p 0
 
--- A loop that carries a state, as a function. A turn is handed its number, the state, and what is done with the next state:
+-- A loop that carries a state, as a function. A round is handed its number, the state, and what is done with the next state:
 -- it goes on by that, or stops by an answer of its own.
 module _ {S R : Type 0} where
-  -- k turns from turn i on, and then done
-  unfoldable pub turns : (ℕ → S → (S → R) → R) → (S → R) → ℕ → ℕ → S → R
-  turns turn done zero i s = done s
-  turns turn done (suc k) i s = turn i s (turns turn done k (i + 1))
+  -- k rounds from round i on, and then done
+  unfoldable pub rounds : (ℕ → S → (S → R) → R) → (S → R) → ℕ → ℕ → S → R
+  rounds round done zero i s = done s
+  rounds round done (suc k) i s = round i s (rounds round done k (i + 1))
 
-  -- the turns i .. n - 1, and then done
-  unfoldable pub from : (ℕ → S → (S → R) → R) → (S → R) → ℕ → ℕ → S → R
-  from turn done n i s = turns turn done (n - i) i s
+  -- the rounds i .. n - 1, and then done
+  unfoldable pub loopFrom : (ℕ → S → (S → R) → R) → (S → R) → ℕ → ℕ → S → R
+  loopFrom round done n i s = rounds round done (n - i) i s

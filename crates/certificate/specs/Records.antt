@@ -7,8 +7,8 @@ use lib.Dec.{ltb, leb, eqb}
 use Rattle.certificate.specs.declared.Report.{Report}
 use Rattle.certificate.specs.Octets.{byteAt, _also_}
 use Rattle.certificate.specs.Loops.{pick, sumTo}
-use Rattle.certificate.specs.Checks.{refusal, fine, need, orElse, firstBad, opened}
-use Rattle.certificate.specs.Layout.{maxLinks, maxTurns, maxSignals, maxModes, maxBoxes, maxEntries, maxCap, maxPull, maxArrival, maxIntervals, maxCells, headerSize, linkSize, turnSize, signalSize, gridSize, arrivalSize, entrySize, endSize, linksOf, turnsOf, signalsOf, modesOf, boxesOf, entriesOf, linkAt, tailOf, headOf, capOf, flowOf, safeOf, goalOf, turnAt, fromOf, toOf, shareOf, pullOf, signalAt, greenByteOf, gridAt, intervalsOf, cutOf, productOf, cellsOf, arrivalAt, lowOf, highOf, entryAt, cellOf, modeOf, signalOf, nextModeOf, endAt}
+use Rattle.certificate.specs.Checks.{refusal, fine, need, orElse, firstBad, marked, opened}
+use Rattle.certificate.specs.Layout.{maxLinks, maxTurns, maxSignals, maxModes, maxBoxes, maxEntries, maxCap, maxShare, maxPull, maxArrival, maxIntervals, maxCells, headerSize, linkSize, turnSize, signalSize, gridSize, arrivalSize, entrySize, endSize, linksOf, turnsOf, signalsOf, modesOf, boxesOf, entriesOf, linkAt, tailOf, headOf, capOf, flowOf, safeOf, goalOf, turnAt, fromOf, toOf, shareOf, pullOf, signalAt, greenByteOf, gridAt, intervalsOf, cutOf, productOf, cellsOf, arrivalAt, lowOf, highOf, entryAt, cellOf, modeOf, signalOf, nextModeOf, endAt}
 
 -- HD: links 1 to 8, turns 0 to 32, signals 1 to 16, modes 1 to 8, arrival boxes 1 to 8, entries 1 to 4,096. Mark "HD".
 unfoldable pub headerOk : List ℕ → Bool
@@ -21,7 +21,7 @@ headerOk s =
     also leb 1 (entriesOf s) also leb (entriesOf s) maxEntries
 
 unfoldable pub headerFault : List ℕ → Report
-headerFault s = orElse (opened s 0 72 68 headerSize) (need (headerOk s) (refusal 3 0) fine)
+headerFault s = orElse (opened s 0 (marked s 0 72 68) headerSize) (need (headerOk s) (refusal 3 0) fine)
 
 -- LK: head 1 to 255 and not the tail, cap 1 to 10,000, flow 1 to cap, safe at most cap, goal at most safe. Mark "LK".
 unfoldable pub linkOk : List ℕ → ℕ → Bool
@@ -35,7 +35,7 @@ linkOk s l =
 
 unfoldable pub linkFault : List ℕ → ℕ → Report
 linkFault s l =
-    orElse (opened s (linkAt l) 76 75 linkSize)
+    orElse (opened s (linkAt l) (marked s (linkAt l) 76 75) linkSize)
     (need (linkOk s l) (refusal 4 (linkAt l)) fine)
 
 -- pairs (a, b) and (c, d) ascend strictly: by the first, then by the second
@@ -56,14 +56,14 @@ unfoldable pub turnOk : List ℕ → ℕ → Bool
 turnOk s t =
     ltb (fromOf s t) (linksOf s) also ltb (toOf s t) (linksOf s)
     also eqb (headOf s (fromOf s t)) (tailOf s (toOf s t))
-    also leb 1 (shareOf s t) also leb (shareOf s t) 100
+    also leb 1 (shareOf s t) also leb (shareOf s t) maxShare
     also leb 1 (pullOf s t) also leb (pullOf s t) maxPull
     also turnAscends s t
-    also leb (shareTotal s t) 100
+    also leb (shareTotal s t) maxShare
 
 unfoldable pub turnFault : List ℕ → ℕ → Report
 turnFault s t =
-    orElse (opened s (turnAt s t) 84 78 turnSize)
+    orElse (opened s (turnAt s t) (marked s (turnAt s t) 84 78) turnSize)
     (need (turnOk s t) (refusal 5 (turnAt s t)) fine)
 
 -- SG: bits of absent links are 0. Mark "SG".
@@ -72,7 +72,7 @@ signalOk s g = ltb (greenByteOf s g) (2 ^ linksOf s)
 
 unfoldable pub signalFault : List ℕ → ℕ → Report
 signalFault s g =
-    orElse (opened s (signalAt s g) 83 71 signalSize)
+    orElse (opened s (signalAt s g) (marked s (signalAt s g) 83 71) signalSize)
     (need (signalOk s g) (refusal 6 (signalAt s g)) fine)
 
 -- the cut before cut i of link l, and 0 before the first
@@ -96,7 +96,7 @@ countOk s l =
 -- GR: mark and count present; the count, with the product so far; the cuts present; the cuts. Mark "GR".
 unfoldable pub gridFault : List ℕ → ℕ → Report
 gridFault s l =
-    orElse (opened s (gridAt s l) 71 82 3)
+    orElse (opened s (gridAt s l) (marked s (gridAt s l) 71 82) 3)
     (need (countOk s l) (refusal 7 (gridAt s l))
     (need (leb (gridAt s l + gridSize (intervalsOf s l)) (length s)) (refusal 1 (gridAt s l))
     (firstBad (intervalsOf s l - 1) (cutFault s l))))
@@ -110,7 +110,7 @@ rangeFault s b l = need (rangeOk s b l) (refusal 8 (arrivalAt s b)) fine
 
 unfoldable pub arrivalFault : List ℕ → ℕ → Report
 arrivalFault s b =
-    orElse (opened s (arrivalAt s b) 65 82 (arrivalSize (linksOf s)))
+    orElse (opened s (arrivalAt s b) (marked s (arrivalAt s b) 65 82) (arrivalSize (linksOf s)))
     (firstBad (linksOf s) (rangeFault s b))
 
 -- the pair (cell, mode) of entry e is above that of the entry before it
@@ -127,11 +127,11 @@ entryOk s e =
 
 unfoldable pub entryFault : List ℕ → ℕ → Report
 entryFault s e =
-    orElse (opened s (entryAt s e) 69 78 entrySize)
+    orElse (opened s (entryAt s e) (marked s (entryAt s e) 69 78) entrySize)
     (need (entryOk s e) (refusal 9 (entryAt s e)) fine)
 
 -- ZZ: nothing follows; a byte after it is refused at its own offset. Mark "ZZ".
 unfoldable pub endFault : List ℕ → Report
 endFault s =
-    orElse (opened s (endAt s) 90 90 endSize)
+    orElse (opened s (endAt s) (marked s (endAt s) 90 90) endSize)
     (need (leb (length s) (endAt s + endSize)) (refusal 2 (endAt s + endSize)) fine)

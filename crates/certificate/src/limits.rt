@@ -13,7 +13,13 @@ pub const MAX_ENTRIES: usize = 4096;
 
 pub const MAX_CAP: usize = 10000;
 
+// In hundredths: of a share, and of all shares from one link.
+pub const MAX_SHARE: usize = 100;
+
 pub const MAX_PULL: usize = 10000;
+
+// Of the sum of share × pull over the turns into a link (condition 10).
+pub const MAX_PULL_SUM: usize = 10000;
 
 pub const MAX_ARRIVAL: usize = 10000;
 
@@ -32,6 +38,16 @@ pub const SIGNAL_SIZE: usize = 3;
 pub const ENTRY_SIZE: usize = 9;
 
 pub const END_SIZE: usize = 2;
+
+// The greatest length of a certificate: the sum of its greatest records HD, LK, TN, SG, GR, AR, EN, ZZ.
+pub const MAX_LENGTH: usize = HEADER_SIZE
+    + MAX_LINKS * LINK_SIZE
+    + MAX_TURNS * TURN_SIZE
+    + MAX_SIGNALS * SIGNAL_SIZE
+    + MAX_LINKS * (1 + 2 * MAX_INTERVALS)
+    + MAX_BOXES * (2 + 4 * MAX_LINKS)
+    + MAX_ENTRIES * ENTRY_SIZE
+    + END_SIZE;
 
 // The scales that a query may use: 1 to this.
 pub const MAX_SCALE: u32 = 100000;

@@ -9,11 +9,11 @@ use Rattle.certificate.proofs.Size.{readable-fits}
 use Rattle.network.proofs.Screening.{screening-is-plain}
 use Rattle.judging.specs.Verdict.{verdictOf}
 use Rattle.judging.proofs.Verdicts.{accepted-is-plain}
-use Rattle.controller.specs.State.{holding, stored, holdsCertificate, loadOf}
+use Rattle.controller.specs.State.{holding, stored, isCertificate, loadOf}
 use Rattle.controller.specs.Laws.{HoldsIsPlain, FreshHoldsNone, AcceptedHolds, LoadAccepted, LoadRefused}
 
 pub holds-is-plain : HoldsIsPlain
-unfolding holdsCertificate
+unfolding isCertificate
 holds-is-plain c = (
   (λ e. let h = and-both _ _ e in record { fits = leb-true _ _ (h .0); screened = screening-is-plain (stored c) .0 (eqb-true _ _ (h .1)) }),
   (λ h. both-and _ _ (le-leb _ _ (h .fits)) (eq-eqb _ _ (screening-is-plain (stored c) .1 (h .screened)))),

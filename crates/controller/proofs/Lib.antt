@@ -2,6 +2,7 @@
 pub mod Holding
 pub mod Writings
 pub mod Lookups
+pub mod Following
 pub mod RoundTrip
 pub mod Loads
 pub mod Held

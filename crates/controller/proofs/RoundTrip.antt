@@ -10,28 +10,20 @@ use Rattle.judging.specs.Verdict.{verdictOf}
 use Rattle.judging.proofs.Verdicts.{accepted-is-plain}
 use Rattle.controller.specs.declared.Controller.{Controller}
 use Rattle.controller.specs.declared.Loaded.{Loaded}
-use Rattle.controller.specs.declared.Shown.{Shown}
-use Rattle.controller.specs.State.{holding, stored, loadOf}
+use Rattle.controller.specs.State.{holding, inMode, stored, loadOf}
 use Rattle.controller.specs.Query.{queryOf}
 use Rattle.controller.specs.Write.{writeBuffer}
-use Rattle.controller.specs.Laws.{Holds, Query, afterQueries, QueriesKeep, RoundTrip, RoundTripWrites}
+use Rattle.controller.specs.Laws.{HoldsCertificate, Query, afterQueries, QueriesKeep, RoundTrip, RoundTripWrites}
 use Rattle.controller.proofs.Holding.{accepted-holds, load-accepted}
-use Rattle.controller.proofs.Lookups.{by-way}
+use Rattle.controller.proofs.Lookups.{query-keeps}
 use Rattle.controller.proofs.Writings.{write-succeeds, write-done}
-
--- one query keeps the array and its length
-query-keeps : (c : Controller) (queues : List ℕ) (scale : ℕ) → (queryOf c queues scale .state .bytes ≡ c .bytes) × (queryOf c queues scale .state .len ≡ c .len)
-query-keeps c queues scale =
-    by-way c queues scale (λ (r : Shown). (r .state .bytes ≡ c .bytes) × (r .state .len ≡ c .len))
-    (λ _ _ _ _. (refl, refl)) (λ _ _ _. (refl, refl)) (λ _ _. (refl, refl)) (λ _. (refl, refl))
 
 pub queries-keep : QueriesKeep
 unfolding afterQueries
-queries-keep c [] = (refl, refl)
+queries-keep c [] = refl
 queries-keep c (q ∷ qs) =
-    let first = query-keeps c (q .queues) (q .scale) in
-    let rest = queries-keep (queryOf c (q .queues) (q .scale) .state) qs in
-    (rest .0 ∙ first .0, rest .1 ∙ first .1)
+    let next = queryOf c (q .queues) (q .scale) .state in
+    queries-keep next qs ∙ ap (λ (d : Controller). inMode d (afterQueries next qs .mode)) (query-keeps c (q .queues) (q .scale))
 
 -- the part from start on, where p stands between what was before it and the rest
 part-at : (p rest buffer : List ℕ) (start : ℕ) → start ≤ length buffer → take (length p) (drop start (take start buffer ++ (p ++ rest))) ≡ p
@@ -45,16 +37,17 @@ module _ (c : Controller) (s : List ℕ) (qs : List Query) (ok : verdictOf s .nu
   loaded : loadOf c s .state ≡ holding s
   loaded = ap (λ (l : Loaded). l .state) (load-accepted c s ok)
 
-  size : after c s qs .len ≡ length s
-  size = rw loaded (queries-keep (holding s) qs .1)
+  -- it is the loaded state in some mode
+  kept : after c s qs ≡ inMode (holding s) (after c s qs .mode)
+  kept = rw loaded (queries-keep (holding s) qs)
 
-  array : after c s qs .bytes ≡ holding s .bytes
-  array = rw loaded (queries-keep (holding s) qs .0)
+  size : after c s qs .len ≡ length s
+  size = ap (λ (d : Controller). d .len) kept
 
   same : stored (after c s qs) ≡ s
-  same = rw (size, array) (accepted-holds s ok .1)
+  same = ap (λ (d : Controller). stored d) kept ∙ accepted-holds s ok .1
 
-  held : Holds (after c s qs)
+  held : HoldsCertificate (after c s qs)
   held = record { fits = rw size (accepted-holds s ok .0 .fits); screened = rw same (accepted-is-plain s .0 ok .0) }
 
 pub round-trip : RoundTrip

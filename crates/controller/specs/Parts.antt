@@ -1,9 +1,8 @@
--- What the code goes by: a state that stores the first n of the bytes, and what is found shown with the state.
-use Prim.Native.Nat.{ℕ}
-use mathlib.Core.List.{List}
+-- What the code goes by: what is found, shown with the state.
 use Rattle.controller.specs.declared.Controller.{Controller}
 use Rattle.controller.specs.declared.Shown.{Shown}
 use Rattle.asking.specs.declared.Found.{Found}
+use Rattle.controller.specs.State.{inMode}
 
 -- what is found, shown with the state in the mode found
 abbrev pub shownBy : Controller → Found → Shown
@@ -12,9 +11,5 @@ shownBy c found =
       report = found .report;
       signal = found .signal;
       green = found .green;
-      state = record { bytes = c .bytes; len = c .len; mode = found .mode };
+      state = inMode c (found .mode);
     }
-
--- a state that stores the first n of the bytes; writing does not read its mode
-abbrev pub storing : List ℕ → ℕ → Controller
-storing bytes n = record { bytes = bytes; len = n; mode = 0 }

@@ -9,7 +9,7 @@ use Rattle.certificate.specs.Layout.{greenByteOf, signalOf, nextModeOf}
 use Rattle.judging.specs.Lookup.{entryFor}
 use Rattle.controller.specs.declared.Controller.{Controller}
 use Rattle.controller.specs.declared.Shown.{Shown}
-use Rattle.controller.specs.State.{stored, holdsCertificate}
+use Rattle.controller.specs.State.{inMode, stored, holdsCertificate}
 use Rattle.judging.specs.Asking.{cellAsked, lookupFault}
 
 unfoldable pub queryFault : Controller → List ℕ → ℕ → Report
@@ -27,7 +27,7 @@ showing c e =
       report = fine;
       signal = signalOf (stored c) e;
       green = greenByteOf (stored c) (signalOf (stored c) e);
-      state = record { bytes = c .bytes; len = c .len; mode = nextModeOf (stored c) e };
+      state = inMode c (nextModeOf (stored c) e);
     }
 
 -- a refusal shows signal and green byte 0 and leaves the state as it was

@@ -18,13 +18,21 @@ freshState = record { bytes = replicate maxLength 0; len = 0; mode = 0 }
 abbrev pub holding : List ℕ → Controller
 holding s = record { bytes = s ++ replicate (maxLength - length s) 0; len = length s; mode = 0 }
 
+-- the state in mode m, all else as it was
+abbrev pub inMode : Controller → ℕ → Controller
+inMode c m = record { bytes = c .bytes; len = c .len; mode = m }
+
 -- the stored bytes: the first len of the array
 abbrev pub stored : Controller → List ℕ
 stored c = take (c .len) (c .bytes)
 
--- the state holds a certificate (refusal 18 where it does not): its stored bytes pass every test that comes before 12
-unfoldable pub holdsCertificate : Controller → Bool
-holdsCertificate c = leb (c .len) maxLength && eqb (screeningOf (stored c) .number) 0
+-- the first n bytes of a state's array are a certificate (refusal 18 where not): it has as many, and they pass every test that comes before 12
+unfoldable pub isCertificate : List ℕ → ℕ → Bool
+isCertificate bytes n = leb n maxLength && eqb (screeningOf (take n bytes) .number) 0
+
+-- the state holds a certificate: its stored bytes are one
+abbrev pub holdsCertificate : Controller → Bool
+holdsCertificate c = isCertificate (c .bytes) (c .len)
 
 -- an accepted load stores its own copy and sets mode 0; a refused one changes nothing
 unfoldable pub loadOf : Controller → List ℕ → Loaded

@@ -31,15 +31,20 @@ impl Controller {
 
     pub const MAX_INTERVALS: usize = limits::MAX_INTERVALS;
 
-    // The greatest length of a certificate: the sum of its greatest records HD, LK, TN, SG, GR, AR, EN, ZZ.
-    pub const SIZE: usize = limits::HEADER_SIZE
-        + Controller::MAX_LINKS * limits::LINK_SIZE
-        + Controller::MAX_TURNS * limits::TURN_SIZE
-        + Controller::MAX_SIGNALS * limits::SIGNAL_SIZE
-        + Controller::MAX_LINKS * (1 + 2 * Controller::MAX_INTERVALS)
-        + Controller::MAX_BOXES * (2 + 4 * Controller::MAX_LINKS)
-        + Controller::MAX_ENTRIES * limits::ENTRY_SIZE
-        + limits::END_SIZE;
+    pub const MAX_CELLS: usize = limits::MAX_CELLS;
+
+    pub const MAX_CAP: usize = limits::MAX_CAP;
+
+    pub const MAX_SHARE: usize = limits::MAX_SHARE;
+
+    pub const MAX_PULL: usize = limits::MAX_PULL;
+
+    pub const MAX_PULL_SUM: usize = limits::MAX_PULL_SUM;
+
+    pub const MAX_ARRIVAL: usize = limits::MAX_ARRIVAL;
+
+    // The greatest length of a certificate.
+    pub const SIZE: usize = limits::MAX_LENGTH;
 
     // The scales that a query may use: 1 to this.
     pub const MAX_SCALE: u32 = limits::MAX_SCALE;

@@ -1,12 +1,10 @@
 // Writing the stored records into the part of a lent buffer from a start on.
 ghost use mathlib.Core.Path.{_≡_};
 ghost use mathlib.Core.Bool.{true};
-ghost use Prim.Native.Nat.{_≤_};
 ghost use lib.ListN.{length};
 ghost use Rattle.certificate.specs.Layout.{maxLength};
-ghost use Rattle.controller.specs.State.{holdsCertificate};
-ghost use Rattle.controller.specs.Parts.{storing};
-ghost use Rattle.controller.specs.Write.{writeReport, writeBuffer};
+ghost use Rattle.controller.specs.State.{isCertificate};
+ghost use Rattle.controller.specs.Write.{writeReportOf, writeBufferOf, writeReport, writeBuffer};
 use crate::Controller;
 use asking::stored;
 use certificate::Report;
@@ -15,8 +13,8 @@ use octets::filling;
 // Writes the certificate that the first n of the bytes are into the buffer from start on; A is its length.
 // Refusal 17: the start lies beyond the buffer, or the part from there is too short.
 fn write_stored(bytes: &[u8], n: usize, buffer: &mut [u8], start: usize) -> Report
-    requires { ⌜ (length (now bytes) ≡ maxLength) × (holdsCertificate (storing (now bytes) n) ≡ true) ⌝ }
-    ensures { λ r. ⌜ (r ≡ writeReport (storing (now (bytes .entry)) n) (now (buffer .entry)) start) × (now (buffer .exit) ≡ writeBuffer (storing (now (bytes .entry)) n) (now (buffer .entry)) start) ⌝ }
+    requires { ⌜ (length (now bytes) ≡ maxLength) × (isCertificate (now bytes) n ≡ true) ⌝ }
+    ensures { λ r. ⌜ (r ≡ writeReportOf (now (bytes .entry)) n (now (buffer .entry)) start) × (now (buffer .exit) ≡ writeBufferOf (now (bytes .entry)) n (now (buffer .entry)) start) ⌝ }
 {
     if start > buffer.len() {
         return octets::refuse(17, 0);
@@ -31,7 +29,7 @@ fn write_stored(bytes: &[u8], n: usize, buffer: &mut [u8], start: usize) -> Repo
 // Writes the first n of a state's bytes into the buffer from start on; refuses where they are no certificate (18) or there is no room (17).
 fn write_from(bytes: &[u8], n: usize, buffer: &mut [u8], start: usize) -> Report
     requires { ⌜ length (now bytes) ≡ maxLength ⌝ }
-    ensures { λ r. ⌜ (r ≡ writeReport (storing (now (bytes .entry)) n) (now (buffer .entry)) start) × (now (buffer .exit) ≡ writeBuffer (storing (now (bytes .entry)) n) (now (buffer .entry)) start) ⌝ }
+    ensures { λ r. ⌜ (r ≡ writeReportOf (now (bytes .entry)) n (now (buffer .entry)) start) × (now (buffer .exit) ≡ writeBufferOf (now (bytes .entry)) n (now (buffer .entry)) start) ⌝ }
 {
     let found = stored::stored_reading(bytes, n);
     let f = found.report;

@@ -59,17 +59,17 @@ module _ (s : List ℕ) where
       record { none = λ z. absurd (omega arith); some = λ lt. omega arith; after = λ lt. rw (n, m) K }
 
   -- the record of an entry: f is what its opening answers
-  module _ (e : ℕ) {o : ℕ} (here : o ≡ entryAt s e) {f : Report} (opening : f ≡ opened s o 69 78 entrySize) where
+  module _ (e : ℕ) {o : ℕ} (here : o ≡ entryAt s e) {mark : Bool} {f : Report} (bears : mark ≡ marked s o 69 78) (opening : f ≡ opened s o mark entrySize) where
     pub entry-unopened : (f .number ≡ 0 → ⊥) → f ≡ entryFault s e
     unfolding entryFault
-    entry-unopened bad = first f _ _ (opening ∙ rw here) bad
+    entry-unopened bad = first f _ _ (opening ∙ rw (bears, here)) bad
 
     pub entry-whole : f .number ≡ 0 → o + entrySize ≤ length s
-    entry-whole z = opened-says s o 69 78 entrySize refl .0 (rw (← opening) z) .0
+    entry-whole z = opened-says s o mark entrySize refl .0 (rw (← opening) z) .0
 
     pub entry-result : {ok : Bool} {r : Report} → ok ≡ entryOk s e → r ≡ orElse f (need ok (refusal 9 o) fine) → r ≡ entryFault s e
     unfolding entryFault
-    entry-result p q = q ∙ rw (opening, p, here)
+    entry-result p q = q ∙ rw (opening, bears, p, here)
 
   -- an entry that is there whole, with its mark, and passes its tests
   pub entry-fine : (e : ℕ) {o : ℕ} {mark ok : Bool} → o ≡ entryAt s e → o + entrySize ≤ length s → mark ≡ marked s o 69 78 → ok ≡ entryOk s e → (mark && ok) ≡ true → fine ≡ entryFault s e
@@ -78,7 +78,7 @@ module _ (s : List ℕ) where
       let b = and-both mark ok holds in
       let m : marked s o 69 78 ≡ true = sym p ∙ b .0 in
       let k : entryOk s e ≡ true = sym q ∙ b .1 in
-      let opening : opened s o 69 78 entrySize ≡ fine = opened-fine s o 69 78 entrySize (omega arith) whole m in
+      let opening : opened s o (marked s o 69 78) entrySize ≡ fine = opened-fine s o _ entrySize (omega arith) whole m in
       sym (rw (← here, opening, need-pass (entryOk s e) (refusal 9 o) fine k, or-next fine fine refl))
 
   -- an entry that passes is there whole

@@ -18,7 +18,7 @@ pub record KeyBefore (s : List ℕ) (e least : ℕ) : Type 0 where
   pub after : 0 < e → IsKey s (e - 1) (least - 1)
 
 -- the counts that the entries are tested against
-pub record CountsOf (s : List ℕ) (counts : Counts) : Type 0 where
+pub record CountsAre (s : List ℕ) (counts : Counts) : Type 0 where
   pub signals-are : counts .signals ≡ signalsOf s
   pub modes-are : counts .modes ≡ modesOf s
   pub cells-are : counts .cells ≡ cellsOf s

@@ -1,12 +1,14 @@
 // EN: one record an entry of the policy, its fields and its tests. `start` is where the records of entries begin.
 ghost use mathlib.Core.Path.{_≡_};
-ghost use Prim.Native.Nat.{_+_, _<_, _≤_};
+ghost use Prim.Native.Nat.{_+_, _*_, _<_, _≤_};
 ghost use lib.ListN.{length};
+ghost use Rattle.certificate.specs.Octets.{byteAt, u16At};
 ghost use Rattle.certificate.specs.Checks.{fine, firstFrom, firstBad};
-ghost use Rattle.certificate.specs.Layout.{entriesStart, entryAt, entrySize, cellOf, modeOf, signalOf, nextModeOf, rankOf};
+ghost use Rattle.certificate.specs.Layout.{maxCells, entriesStart, entryAt, entrySize, cellOf, modeOf, signalOf, nextModeOf, rankOf};
 ghost use Rattle.certificate.specs.Records.{entryOk, entryFault};
 ghost use Rattle.entry_records.specs.Keys.{IsKey, KeyBefore};
-ghost use Rattle.entry_records.specs.Keys.{CountsOf};
+ghost use Rattle.entry_records.specs.Keys.{CountsAre};
+ghost use Rattle.octets.specs.Bounds.{entryBound, startBound};
 use certificate::Report;
 use certificate::limits;
 
@@ -17,44 +19,67 @@ pub struct Counts {
     pub cells: usize,
 }
 
+// Where the record of entry e stands.
+pub fn entry_at(start: usize, e: usize) -> usize
+    requires { ⌜ (e < 65536) × (start ≤ startBound) ⌝ }
+    ensures { λ r. ⌜ (r ≡ start + entrySize * e) × (r ≤ 700000) ⌝ }
+{
+    start + limits::ENTRY_SIZE * e
+}
+
+// The byte and the two-byte number at offset k of the record of entry e.
+fn entry_byte(s: &[u8], start: usize, e: usize, k: usize) -> usize
+    requires { ⌜ (e < 65536) × (k < 256) × (start ≤ startBound) × (start ≡ entriesStart (now s)) ⌝ }
+    ensures { λ r. ⌜ (r ≡ byteAt (now (s .entry)) (entryAt (now (s .entry)) e + k)) × (r < 256) ⌝ }
+{
+    octets::byte_at(s, entry_at(start, e) + k)
+}
+
+fn entry_u16(s: &[u8], start: usize, e: usize, k: usize) -> usize
+    requires { ⌜ (e < 65536) × (k < 256) × (start ≤ startBound) × (start ≡ entriesStart (now s)) ⌝ }
+    ensures { λ r. ⌜ (r ≡ u16At (now (s .entry)) (entryAt (now (s .entry)) e + k)) × (r < 65536) ⌝ }
+{
+    octets::u16_at(s, entry_at(start, e) + k)
+}
+
 pub fn cell_of(s: &[u8], start: usize, e: usize) -> usize
-    requires { ⌜ (e < 65536) × (start ≤ 100000) × (start ≡ entriesStart (now s)) ⌝ }
+    requires { ⌜ (e < 65536) × (start ≤ startBound) × (start ≡ entriesStart (now s)) ⌝ }
     ensures { λ r. ⌜ (r ≡ cellOf (now (s .entry)) e) × (r < 65536) ⌝ }
 {
-    octets::u16_at(s, start + limits::ENTRY_SIZE * e + 2)
+    entry_u16(s, start, e, 2)
 }
 
 pub fn mode_of(s: &[u8], start: usize, e: usize) -> usize
-    requires { ⌜ (e < 65536) × (start ≤ 100000) × (start ≡ entriesStart (now s)) ⌝ }
+    requires { ⌜ (e < 65536) × (start ≤ startBound) × (start ≡ entriesStart (now s)) ⌝ }
     ensures { λ r. ⌜ (r ≡ modeOf (now (s .entry)) e) × (r < 256) ⌝ }
 {
-    octets::byte_at(s, start + limits::ENTRY_SIZE * e + 4)
+    entry_byte(s, start, e, 4)
 }
 
 pub fn signal_of(s: &[u8], start: usize, e: usize) -> usize
-    requires { ⌜ (e < 65536) × (start ≤ 100000) × (start ≡ entriesStart (now s)) ⌝ }
+    requires { ⌜ (e < 65536) × (start ≤ startBound) × (start ≡ entriesStart (now s)) ⌝ }
     ensures { λ r. ⌜ (r ≡ signalOf (now (s .entry)) e) × (r < 256) ⌝ }
 {
-    octets::byte_at(s, start + limits::ENTRY_SIZE * e + 5)
+    entry_byte(s, start, e, 5)
 }
 
 pub fn next_mode_of(s: &[u8], start: usize, e: usize) -> usize
-    requires { ⌜ (e < 65536) × (start ≤ 100000) × (start ≡ entriesStart (now s)) ⌝ }
+    requires { ⌜ (e < 65536) × (start ≤ startBound) × (start ≡ entriesStart (now s)) ⌝ }
     ensures { λ r. ⌜ (r ≡ nextModeOf (now (s .entry)) e) × (r < 256) ⌝ }
 {
-    octets::byte_at(s, start + limits::ENTRY_SIZE * e + 6)
+    entry_byte(s, start, e, 6)
 }
 
 pub fn rank_of(s: &[u8], start: usize, e: usize) -> usize
-    requires { ⌜ (e < 65536) × (start ≤ 100000) × (start ≡ entriesStart (now s)) ⌝ }
+    requires { ⌜ (e < 65536) × (start ≤ startBound) × (start ≡ entriesStart (now s)) ⌝ }
     ensures { λ r. ⌜ (r ≡ rankOf (now (s .entry)) e) × (r < 65536) ⌝ }
 {
-    octets::u16_at(s, start + limits::ENTRY_SIZE * e + 7)
+    entry_u16(s, start, e, 7)
 }
 
 // The pair of the entry at o, which is there whole, as one number: cell × 256 + mode.
 fn key_at(s: &[u8], o: usize, e: usize) -> usize
-    requires { ⌜ (o ≤ 900000) × (o ≡ entryAt (now s) e) × (o + entrySize ≤ length (now s)) ⌝ }
+    requires { ⌜ (o ≤ entryBound) × (o ≡ entryAt (now s) e) × (o + entrySize ≤ length (now s)) ⌝ }
     ensures { λ r. ⌜ IsKey (now (s .entry)) e r ⌝ }
 {
     octets::u16_within(s, o + 2) * 256 + octets::byte_within(s, o + 4)
@@ -62,7 +87,7 @@ fn key_at(s: &[u8], o: usize, e: usize) -> usize
 
 // The tests of the entry at o, which is there whole and has that key; `least` is above the key of the entry before it.
 fn entry_ok(s: &[u8], o: usize, counts: Counts, e: usize, key: usize, least: usize) -> bool
-    requires { ⌜ (o ≤ 900000) × (o ≡ entryAt (now s) e) × (o + entrySize ≤ length (now s)) × (counts .cells ≤ 4096) × CountsOf (now s) counts × IsKey (now s) e key × KeyBefore (now s) e least ⌝ }
+    requires { ⌜ (o ≤ entryBound) × (o ≡ entryAt (now s) e) × (o + entrySize ≤ length (now s)) × (counts .cells ≤ maxCells) × CountsAre (now s) counts × IsKey (now s) e key × KeyBefore (now s) e least ⌝ }
     ensures { λ r. ⌜ r ≡ entryOk (now (s .entry)) e ⌝ }
 {
     (key < counts.cells * 256)
@@ -74,14 +99,14 @@ fn entry_ok(s: &[u8], o: usize, counts: Counts, e: usize, key: usize, least: usi
 
 // A quick yes for the record at o: it is there whole, its mark is right, and its tests pass. One above its key then, else 0.
 fn quick(s: &[u8], o: usize, counts: Counts, e: usize, least: usize) -> usize
-    requires { ⌜ (o ≤ 900000) × (o ≡ entryAt (now s) e) × (counts .cells ≤ 4096) × CountsOf (now s) counts × KeyBefore (now s) e least ⌝ }
+    requires { ⌜ (o ≤ entryBound) × (o ≡ entryAt (now s) e) × (counts .cells ≤ maxCells) × CountsAre (now s) counts × KeyBefore (now s) e least ⌝ }
     ensures { λ r. ⌜ ((r ≡ 0 → ⊥) → (fine ≡ entryFault (now (s .entry)) e) × KeyBefore (now (s .entry)) (e + 1) r) ⌝ }
 {
     if s.len() < o + limits::ENTRY_SIZE {
         return 0;
     }
     let key = key_at(s, o, e);
-    if octets::marked_as(s, o, 69, 78) & entry_ok(s, o, counts, e, key, least) {
+    if octets::marked_within(s, o, 69, 78) & entry_ok(s, o, counts, e, key, least) {
         return key + 1;
     }
     0
@@ -89,10 +114,10 @@ fn quick(s: &[u8], o: usize, counts: Counts, e: usize, least: usize) -> usize
 
 // The record at o by its tests one after another.
 fn check_entry(s: &[u8], o: usize, counts: Counts, e: usize, least: usize) -> Report
-    requires { ⌜ (o ≤ 900000) × (o ≡ entryAt (now s) e) × (counts .cells ≤ 4096) × CountsOf (now s) counts × KeyBefore (now s) e least ⌝ }
+    requires { ⌜ (o ≤ entryBound) × (o ≡ entryAt (now s) e) × (counts .cells ≤ maxCells) × CountsAre (now s) counts × KeyBefore (now s) e least ⌝ }
     ensures { λ r. ⌜ r ≡ entryFault (now (s .entry)) e ⌝ }
 {
-    let opening = octets::check_opened(s, o, 69, 78, limits::ENTRY_SIZE);
+    let opening = octets::check_opened(s, o, octets::marked_as(s, o, 69, 78), limits::ENTRY_SIZE);
     if opening.number != 0 {
         return opening;
     }
@@ -109,12 +134,12 @@ fn check_from(
     from: usize,
     least: usize,
 ) -> Report
-    requires { ⌜ (entries < 65536) × (start ≤ 100000) × (start ≡ entriesStart (now s)) × (counts .cells ≤ 4096) × CountsOf (now s) counts × KeyBefore (now s) from least ⌝ }
+    requires { ⌜ (entries < 65536) × (start ≤ startBound) × (start ≡ entriesStart (now s)) × (counts .cells ≤ maxCells) × CountsAre (now s) counts × KeyBefore (now s) from least ⌝ }
     ensures { λ r. ⌜ r ≡ firstFrom entries (entryFault (now (s .entry))) from ⌝ }
 {
     let mut above = least;
     for e in from..entries {
-        let o = start + limits::ENTRY_SIZE * e;
+        let o = entry_at(start, e);
         let f = check_entry(s, o, counts, e, above);
         if f.number != 0 {
             return f;
@@ -126,12 +151,12 @@ fn check_from(
 
 // The records of all entries: quickly as long as the quick test says yes, and with care from there on.
 pub fn check_entries(s: &[u8], start: usize, counts: Counts, entries: usize) -> Report
-    requires { ⌜ (entries < 65536) × (start ≤ 100000) × (start ≡ entriesStart (now s)) × (counts .cells ≤ 4096) × CountsOf (now s) counts ⌝ }
+    requires { ⌜ (entries < 65536) × (start ≤ startBound) × (start ≡ entriesStart (now s)) × (counts .cells ≤ maxCells) × CountsAre (now s) counts ⌝ }
     ensures { λ r. ⌜ r ≡ firstBad entries (entryFault (now (s .entry))) ⌝ }
 {
     let mut least = 0;
     for e in 0..entries {
-        let next = quick(s, start + limits::ENTRY_SIZE * e, counts, e, least);
+        let next = quick(s, entry_at(start, e), counts, e, least);
         if next == 0 {
             return check_from(s, start, counts, entries, e, least);
         }

@@ -6,8 +6,9 @@ use native.Mathlib.Omega.{arith}
 use lib.ListN.{getD}
 use Rattle.certificate.specs.Facts.{Readable}
 use Rattle.certificate.specs.Layout.{linksOf, boxesOf, lowOf, highOf, entriesOf, cellOf, signalOf}
-use Rattle.network.specs.Network.{networkOf, limitOf}
+use Rattle.network.specs.Network.{networkOf, isGreen, entryLimit}
 use Rattle.network.specs.Laws.{Screened}
+use Rattle.network.proofs.Screening.{entry-sound}
 use Rattle.images.proofs.Arriving.{end-arriving}
 use Rattle.grid.specs.Successors.{imageLow, imageHigh}
 use Rattle.grid.proofs.Images.{image-is-smallest}
@@ -35,7 +36,7 @@ pub image-is : (s : List ℕ) → Screened s → (e b links : ℕ) (low high fro
 unfolding imageLow imageHigh
 image-is s S e b links low high from to caps arrivals w C A E he hb lows highs =
     record {
-      low-is = λ l hl. lows l (rw w hl) ∙ rw (C l hl, A .low-is b l hb hl) (end-arriving (networkOf s) (limitOf s (signalOf s e)) _ (lowOf s b) l _ _ (E .low-is l hl) refl);
-      high-is = λ l hl. highs l (rw w hl) ∙ rw (C l hl, A .high-is b l hb hl) (end-arriving (networkOf s) (limitOf s (signalOf s e)) _ (highOf s b) l _ _ (E .high-is l hl) refl);
-      smallest = image-is-smallest s S (signalOf s e) b (cellOf s e) (S .readable .entry e he .signal) hb;
+      low-is = λ l hl. lows l (rw w hl) ∙ rw (C l hl, A .low-is b l hb hl) (end-arriving (networkOf s) (entryLimit s e) _ (lowOf s b) l _ _ (E .low-is l hl) refl);
+      high-is = λ l hl. highs l (rw w hl) ∙ rw (C l hl, A .high-is b l hb hl) (end-arriving (networkOf s) (entryLimit s e) _ (highOf s b) l _ _ (E .high-is l hl) refl);
+      smallest = image-is-smallest s (S .readable) (isGreen s (signalOf s e)) (entryLimit s e) (entry-sound s S e he) b (cellOf s e) hb;
     }

@@ -1,6 +1,6 @@
 -- The successors of an entry, and the nested search through them.
 pub mod Arriving
-pub mod Ranged
 pub mod Searching
 pub mod Successors
 pub mod Places
+pub mod SuccessorRuns

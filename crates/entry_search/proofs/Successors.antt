@@ -1,22 +1,22 @@
 -- The refusal of one successor, by its number, and the code's tests for it. Assumes nothing.
-use Prim.Native.Nat.{ℕ, _+_, _≤_, _<_}
+use Prim.Native.Nat.{ℕ, _+_, _<_}
 use mathlib.Core.List.{List}
 use mathlib.Core.Bool.{Bool, true, false, not, _&&_, _||_}
 use mathlib.Core.Path.{_≡_, refl, sym, ap, _∙_}
 use native.Mathlib.Omega.{arith}
-use borrow.Author.Tests.{lt-ltb, le-ltb, le-leb, leb-true, leb-false, ne-eqb, eqb-false, not-true}
-use lib.Dec.{eqb, leb, ltb}
+use borrow.Author.Tests.{lt-ltb, le-ltb, ltb-true, ltb-false, ne-eqb, eqb-false, not-true}
+use lib.Dec.{eqb, ltb}
 use lib.ListN.{getD}
 use Rattle.certificate.specs.Loops.{pick}
 use Rattle.certificate.specs.declared.Report.{Report}
-use Rattle.certificate.specs.Checks.{result, fine, need, orElse}
+use Rattle.certificate.specs.Checks.{result, fine, need}
 use Rattle.certificate.specs.Layout.{nextModeOf, rankOf}
-use Rattle.certificate.proofs.Tests.{and-both, need-pass, need-fail, or-next, or-stop}
+use Rattle.certificate.proofs.Tests.{and-both, need-pass, need-fail}
 use Rattle.entry_setup.specs.declared.Task.{Task}
 use Rattle.judging.specs.Lookup.{entryFor, isListed}
 use Rattle.rank_tables.specs.Index.{rankAt, RanksOf}
-use Rattle.judging.specs.Judging.{isLower, successorFault, accepted}
-use Rattle.entry_setup.specs.Tables.{limitFor, IsTask}
+use Rattle.judging.specs.EntryTests.{isLower, successorFault}
+use Rattle.entry_setup.specs.Tables.{boundFor, IsTask}
 
 -- a successor's refusal is known by its number
 module _ (s : List ℕ) (e d n : ℕ) where
@@ -39,40 +39,29 @@ module _ (s : List ℕ) (e d n : ℕ) where
       go true false z = refl
       go false q z = refl
 
-  -- the report of the look-up, by the number k of the refusal
-  module _ (k : ℕ) (r : Report) (k-is : k ≡ successorFault s e d 0 .number) where
-    pub looked-refused : (k ≡ 0 → ⊥) → r ≡ result k e d n → r ≡ orElse (successorFault s e d n) (accepted n)
-    looked-refused z q =
-        let same : result k e d n ≡ successorFault s e d n = rw k-is (some-fault (λ w. z (k-is ∙ w))) in
-        q ∙ same ∙ sym (or-stop (successorFault s e d n) (accepted n) (λ w. z (ap (λ (f : Report). f .number) same ∙ w)))
+  -- the look-up with the number k of its refusal, and any count
+  module _ {k : ℕ} (k-is : k ≡ successorFault s e d 0 .number) where
+    pub looked-refused : (k ≡ 0 → ⊥) → result k e d n ≡ successorFault s e d n
+    looked-refused z = rw k-is (some-fault (λ w. z (k-is ∙ w)))
 
-    pub looked-fine : k ≡ 0 → r ≡ accepted n → r ≡ orElse (successorFault s e d n) (accepted n)
-    looked-fine z q = q ∙ rw (no-fault (sym k-is ∙ z)) (sym (or-next fine (accepted n) refl))
-
-  pub fault-count : successorFault s e d n .count ≤ n
-  unfolding successorFault need
-  fault-count = go (isListed s d (nextModeOf s e)) (isLower s e (entryFor s d (nextModeOf s e)))
-    where
-      go : (p q : Bool) → need p (result 14 e d n) (need q (result 15 e d n) fine) .count ≤ n
-      go true true = omega arith
-      go true false = omega arith
-      go false q = omega arith
+    pub looked-fine : k ≡ 0 → successorFault s e d n .number ≡ 0
+    looked-fine z = rw (no-fault (sym k-is ∙ z))
 
 -- a rank r is lower than the rank of the entry judged, or that is 0; the table has r + 1
-by-ranks : (rank r : ℕ) → (eqb rank 0 || ltb r rank) ≡ (eqb rank 0 || leb (r + 1) rank)
-by-ranks rank r = ap (λ b. eqb rank 0 || b) (go (leb (r + 1) rank) refl)
+by-ranks : (rank r : ℕ) → (eqb rank 0 || ltb r rank) ≡ (eqb rank 0 || ltb (r + 1) (rank + 1))
+by-ranks rank r = ap (λ b. eqb rank 0 || b) (go (ltb (r + 1) (rank + 1)) refl)
   where
-    go : (q : Bool) → leb (r + 1) rank ≡ q → ltb r rank ≡ q
-    go true e = lt-ltb r rank (omega (arith, leb-true (r + 1) rank e))
-    go false e = le-ltb r rank (omega (arith, leb-false (r + 1) rank e))
+    go : (q : Bool) → ltb (r + 1) (rank + 1) ≡ q → ltb r rank ≡ q
+    go true e = lt-ltb r rank (omega (arith, ltb-true (r + 1) (rank + 1) e))
+    go false e = le-ltb r rank (omega (arith, ltb-false (r + 1) (rank + 1) e))
 
--- the code compares with a limit that any number of 32 bits meets where the rank is 0
-by-limit : (rank v : ℕ) → v ≤ 4294967295 → leb v (limitFor rank) ≡ (eqb rank 0 || leb v rank)
-unfolding limitFor
-by-limit rank v most = go (eqb rank 0)
+-- the code compares with a bound that any number of 32 bits is below where the rank is 0
+by-bound : (rank v : ℕ) → v < 4294967296 → ltb v (boundFor rank) ≡ (eqb rank 0 || ltb v (rank + 1))
+unfolding boundFor
+by-bound rank v most = go (eqb rank 0)
   where
-    go : (z : Bool) → leb v (pick z 4294967295 rank) ≡ (z || leb v rank)
-    go true = le-leb v 4294967295 most
+    go : (z : Bool) → ltb v (pick z 4294967296 (rank + 1)) ≡ (z || ltb v (rank + 1))
+    go true = lt-ltb v 4294967296 most
     go false = refl
 
 -- a slot of the table of ranks is 0 exactly where the pair is not listed
@@ -85,7 +74,7 @@ slot-full true r v e z = (refl, e)
 slot-full false r v e z = absurd (z e)
 
 -- successor d is looked up: v is what the table of ranks has for it and the next mode
-module _ {s : List ℕ} {task : Task} (is : IsTask s task) (ranks : List ℕ) (table : RanksOf s ranks) (d : ℕ) (inside : d < task .cells) (v : ℕ) (v-is : v ≡ getD ranks (task .row + d) 0) (v-most : v ≤ 4294967295) where
+module _ {s : List ℕ} {task : Task} (is : IsTask s task) (ranks : List ℕ) (table : RanksOf s ranks) (d : ℕ) (inside : d < task .cells) (v : ℕ) (v-is : v ≡ getD ranks (task .row + d) 0) (v-most : v < 4294967296) where
   slot : v ≡ rankAt s d (nextModeOf s (task .entry))
   slot = v-is ∙ rw (is .row-is) (table _ d (is .next-exists) (rw (is .cells-is) at inside))
 
@@ -98,18 +87,18 @@ module _ {s : List ℕ} {task : Task} (is : IsTask s task) (ranks : List ℕ) (t
     unfolding rankAt
     full = slot-full _ _ v slot there
 
-    lower : isLower s (task .entry) (entryFor s d (nextModeOf s (task .entry))) ≡ leb v (task .limit)
+    lower : isLower s (task .entry) (entryFor s d (nextModeOf s (task .entry))) ≡ ltb v (task .bound)
     unfolding isLower
     lower =
         rw (full .1, is .rank-is) (by-ranks (rankOf s (task .entry)) (rankOf s (entryFor s d (nextModeOf s (task .entry)))))
-        ∙ sym (by-limit (task .rank) v v-most)
-        ∙ ap (leb v) (sym (is .limit-is))
+        ∙ sym (by-bound (task .rank) v v-most)
+        ∙ ap (ltb v) (sym (is .bound-is))
 
-    pub is-higher : (not (eqb v 0) && leb v (task .limit)) ≡ false → 15 ≡ successorFault s (task .entry) d 0 .number
+    pub is-higher : (not (eqb v 0) && ltb v (task .bound)) ≡ false → 15 ≡ successorFault s (task .entry) d 0 .number
     unfolding successorFault
     is-higher h = rw (need-pass _ _ _ (full .0), need-fail _ _ _ (lower ∙ (rw (ne-eqb v 0 there) at h)))
 
-  pub is-met : (not (eqb v 0) && leb v (task .limit)) ≡ true → 0 ≡ successorFault s (task .entry) d 0 .number
+  pub is-met : (not (eqb v 0) && ltb v (task .bound)) ≡ true → 0 ≡ successorFault s (task .entry) d 0 .number
   unfolding successorFault
   is-met h =
       let p = and-both _ _ h in

@@ -5,19 +5,20 @@ use mathlib.Core.List.{List}
 use mathlib.Core.Bool.{true, false}
 use mathlib.Core.Path.{_≡_}
 use Rattle.certificate.specs.declared.Report.{Report}
-use Rattle.certificate.specs.Loops.{from}
-use Rattle.certificate.specs.Layout.{linksOf, cellsOf, boxesOf, cellOf, signalOf}
+use Rattle.certificate.specs.Loops.{loopFrom}
+use Rattle.certificate.specs.Layout.{linksOf, cellsOf, boxesOf, cellOf}
+use Rattle.network.specs.Network.{entryLimit}
 use Rattle.grid.specs.Successors.{imageLow, imageHigh}
 use Rattle.grid.specs.Laws.{ImageOf}
 use Rattle.octets.specs.Tables.{Holds}
 use Rattle.successors.specs.Ranges.{startAt}
-use Rattle.judging.specs.Judging.{follows, cellTurn, boxTurn, accepted}
+use Rattle.judging.specs.EntryTests.{follows, cellRound, boxRound, accepted}
 
 -- the image of entry e's cell under its signal and box b: low and high are its ends, and it is the smallest box (grid `ImageOf`)
 pub record EntryImage (s : List ℕ) (e b : ℕ) (low high : List ℕ) : Type 0 where
-  pub low-is : Holds (linksOf s) (imageLow s (signalOf s e) b (cellOf s e)) low
-  pub high-is : Holds (linksOf s) (imageHigh s (signalOf s e) b (cellOf s e)) high
-  pub smallest : ImageOf s (signalOf s e) b (cellOf s e)
+  pub low-is : Holds (linksOf s) (imageLow s (entryLimit s e) b (cellOf s e)) low
+  pub high-is : Holds (linksOf s) (imageHigh s (entryLimit s e) b (cellOf s e)) high
+  pub smallest : ImageOf s (entryLimit s e) b (cellOf s e)
 
 -- the n runs of successors of entry e under box b: they start where the list says, ascending, all of that size, and no other cell follows
 pub record BoxRuns (s : List ℕ) (e b : ℕ) (starts : List ℕ) (n size : ℕ) : Type 0 where
@@ -31,8 +32,8 @@ pub record BoxRuns (s : List ℕ) (e b : ℕ) (starts : List ℕ) (n size : ℕ)
 
 -- what the search for entry e finds from box b on, where n successors were looked up before: its first refusal, or accepted
 unfoldable pub boxesFrom : List ℕ → ℕ → ℕ → ℕ → Report
-boxesFrom s e b n = from (boxTurn s e) accepted (boxesOf s) b n
+boxesFrom s e b n = loopFrom (boxRound s e) accepted (boxesOf s) b n
 
 -- the same from cell d of box b on
 unfoldable pub cellsFrom : List ℕ → ℕ → ℕ → ℕ → ℕ → Report
-cellsFrom s e b d n = from (cellTurn s e b) (boxesFrom s e (b + 1)) (cellsOf s) d n
+cellsFrom s e b d n = loopFrom (cellRound s e b) (boxesFrom s e (b + 1)) (cellsOf s) d n

@@ -2,10 +2,11 @@
 ghost use mathlib.Core.Path.{_≡_};
 ghost use Prim.Native.Nat.{ℕ, _+_, _*_, _<_, _≤_, min};
 ghost use lib.ListN.{getD, length};
-ghost use Rattle.certificate.specs.Layout.{linksOf, boxesOf, entriesOf};
+ghost use Rattle.certificate.specs.Layout.{maxCells, maxLinks, linksOf, boxesOf, entriesOf};
 ghost use Rattle.network.specs.Laws.{Screened};
 ghost use Rattle.entry_setup.specs.Tables.{CapsOf, ArrivalsOf, TablesOf, EntryEnds, IsTask};
 ghost use Rattle.entry_search.specs.Search.{EntryImage, BoxRuns};
+use certificate::limits;
 use entry_setup::LinkTables;
 use entry_setup::Task;
 use images::ends;
@@ -15,15 +16,15 @@ use successors::starts;
 // The low or the high ends with the arrivals of a box, which stand at every second place from `at` on: at most cap.
 fn ends_under(
     links: usize,
-    caps: &[usize; 8],
-    before: &[usize; 8],
+    caps: &[usize; limits::MAX_LINKS],
+    before: &[usize; limits::MAX_LINKS],
     arrivals: &[usize; 128],
     at: usize,
-) -> [usize; 8]
-    requires { ⌜ (links ≤ 8) × (at ≤ 113) × ((l : ℕ) → l < links → (getD (now before) l 0 ≤ 10000000000) × (getD (now arrivals) (at + 2 * l) 0 ≤ 10000000000)) ⌝ }
+) -> [usize; limits::MAX_LINKS]
+    requires { ⌜ (links ≤ maxLinks) × (at ≤ 113) × ((l : ℕ) → l < links → (getD (now before) l 0 ≤ 10000000000) × (getD (now arrivals) (at + 2 * l) 0 ≤ 10000000000)) ⌝ }
     ensures { λ r. ⌜ ((l : ℕ) → l < links → getD r l 0 ≡ min (getD (now (caps .entry)) l 0) (getD (now (before .entry)) l 0 + getD (now (arrivals .entry)) (at + 2 * l) 0)) ⌝ }
 {
-    let mut r = [0usize; 8];
+    let mut r = [0usize; limits::MAX_LINKS];
     for l in 0..links {
         r[l] = ends::end_of(caps[l], before[l], arrivals[at + 2 * l]);
     }
@@ -35,10 +36,10 @@ fn ends_under(
 fn image_of<'a>(
     s: &[u8],
     links: usize,
-    caps: &[usize; 8],
+    caps: &[usize; limits::MAX_LINKS],
     arrivals: &[usize; 128],
-    low: &'a [usize; 8],
-    high: &'a [usize; 8],
+    low: &'a [usize; limits::MAX_LINKS],
+    high: &'a [usize; limits::MAX_LINKS],
     e: usize,
     b: usize,
 ) -> ends::Ends
@@ -64,8 +65,8 @@ pub fn box_runs(
     b: usize,
     runs: &mut [u16],
 ) -> starts::Runs
-    requires { ⌜ TablesOf (now s) tables (now edges) (now arrivals) × IsTask (now s) task × EntryEnds (now s) (task .entry) (before .low) (before .high) × (b < task .boxes) × (length (now runs) ≡ 4096) ⌝ }
-    ensures { λ r. ⌜ (length (now (runs .exit)) ≡ 4096) × BoxRuns (now (s .entry)) (task .entry) b (now (runs .exit)) (r .count) (r .size) ⌝ }
+    requires { ⌜ TablesOf (now s) tables (now edges) (now arrivals) × IsTask (now s) task × EntryEnds (now s) (task .entry) (before .low) (before .high) × (b < task .boxes) × (length (now runs) ≡ maxCells) ⌝ }
+    ensures { λ r. ⌜ (length (now (runs .exit)) ≡ maxCells) × BoxRuns (now (s .entry)) (task .entry) b (now (runs .exit)) (r .count) (r .size) ⌝ }
 {
     let links = tables.links;
     let e = task.entry;

@@ -3,9 +3,10 @@ ghost use mathlib.Core.Path.{_≡_};
 ghost use Prim.Native.Nat.{_+_, _*_, _<_, _≤_};
 ghost use lib.ListN.{length};
 ghost use Rattle.rank_tables.specs.Index.{RanksOf};
-ghost use Rattle.judging.specs.Judging.{successorFault};
+ghost use Rattle.judging.specs.EntryTests.{successorFault};
 ghost use Rattle.entry_setup.specs.Tables.{TablesOf, EntryEnds, IsTask};
 ghost use Rattle.entry_search.specs.Search.{boxesFrom};
+ghost use Rattle.certificate.specs.Layout.{maxCells};
 use crate::boxes;
 use certificate::Report;
 use entry_setup::LinkTables;
@@ -20,7 +21,7 @@ fn successor_number(s: &[u8], task: Task, ranks: &[u32; 32768], d: usize) -> u8
 {
     let at = task.row + d;
     let v = numbers::wide_quad(ranks[at]);
-    if (v != 0) & (v <= task.limit) {
+    if (v != 0) & (v < task.bound) {
         return 0;
     }
     if v == 0 {
@@ -30,8 +31,8 @@ fn successor_number(s: &[u8], task: Task, ranks: &[u32; 32768], d: usize) -> u8
 }
 
 // The nested search of an entry: arrival boxes ascending and successor cells ascending, left by the label at the first unlisted
-// or not lower successor. `before` has the ends of the entry's image before arrivals, `count` is the lookups before it;
-// `runs` is room for the starts of the runs of a box.
+// or not lower successor. Each lookup is counted, the failing one too. `before` has the ends of the entry's image before arrivals,
+// `count` is the lookups before it; `runs` is room for the starts of the runs of a box.
 pub fn search_boxes(
     s: &[u8],
     task: Task,
@@ -43,31 +44,31 @@ pub fn search_boxes(
     before: ends::Ends,
     count: u32,
 ) -> Report
-    requires { ⌜ TablesOf (now s) tables (now edges) (now arrivals) × RanksOf (now s) (now ranks) × IsTask (now s) task × EntryEnds (now s) (task .entry) (before .low) (before .high) × (count ≤ 32768 * task .entry) × (length (now runs) ≡ 4096) ⌝ }
-    ensures { λ r. ⌜ (r ≡ boxesFrom (now (s .entry)) (task .entry) 0 count) × (r .count ≤ 32768 * (task .entry + 1)) × (length (now (runs .exit)) ≡ 4096) ⌝ }
+    requires { ⌜ TablesOf (now s) tables (now edges) (now arrivals) × RanksOf (now s) (now ranks) × IsTask (now s) task × EntryEnds (now s) (task .entry) (before .low) (before .high) × (count ≤ 32768 * task .entry) × (length (now runs) ≡ maxCells) ⌝ }
+    ensures { λ r. ⌜ (r ≡ boxesFrom (now (s .entry)) (task .entry) 0 count) × (r .count ≤ 32768 * (task .entry + 1)) × (length (now (runs .exit)) ≡ maxCells) ⌝ }
 {
-    let mut found = octets::report(0, 0, 0, count);
+    let mut found = octets::accept();
+    let mut looked = count;
     'search: for b in 0..task.boxes {
         let r = boxes::box_runs(s, task, tables, edges, arrivals, before, b, runs);
         let n = r.count;
         let size = r.size;
         let mut i = 0;
         while i < n {
-            let first = numbers::wide_pair(runs[i]);
-            let end = first + size;
-            let mut d = first;
+            let mut d = numbers::wide_pair(runs[i]);
+            let end = d + size;
             while d < end {
+                looked += 1;
                 let number = successor_number(s, task, ranks, d);
                 if number != 0 {
-                    let looked = i * size + (d - first) + 1;
-                    found = octets::report(number, task.entry, d, found.count + looked as u32);
+                    found = octets::report(number, task.entry, d, 0);
                     break 'search;
                 }
                 d += 1;
             }
             i += 1;
         }
-        found = octets::report(0, 0, 0, found.count + (n * size) as u32);
     }
+    found.count = looked;
     found
 }

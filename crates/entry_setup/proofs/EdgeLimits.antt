@@ -9,7 +9,7 @@ use Rattle.certificate.specs.Loops.{everyFrom}
 use Rattle.certificate.specs.Layout.{linksOf, cellOf, rankOf}
 use Rattle.certificate.proofs.Loops.{every-turn, every-end}
 use Rattle.grid.specs.Cells.{upperOf}
-use Rattle.judging.specs.Judging.{isGoal, isRanked, isSafe, standingFault}
+use Rattle.judging.specs.EntryTests.{isGoal, isRanked, isSafe, standingFault}
 use Rattle.entry_setup.specs.Tables.{UpperEdges}
 use native.Mathlib.Omega.{arith}
 use Rattle.certificate.specs.declared.Report.{Report}

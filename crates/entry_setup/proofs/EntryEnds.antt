@@ -1,42 +1,49 @@
--- The edges of an entry's cell, and the ends of its image before arrivals. Assumes nothing.
+-- The edges of an entry's cell, its limits, and the ends of its image before arrivals. Assumes nothing.
 use Prim.Native.Nat.{ℕ, _+_, _*_, _≤_, _<_}
 use mathlib.Core.List.{List}
-use mathlib.Core.Path.{_≡_, refl, sym, ap, _∙_}
-use native.Mathlib.Nat.{le-antisymm, le-of-eq}
+use mathlib.Core.Path.{_≡_, refl, _∙_}
 use native.Mathlib.Omega.{arith}
 use lib.ListN.{getD}
 use Rattle.reading.specs.declared.Layout.{Layout}
+use Rattle.certificate.specs.Octets.{bitOf}
+use Rattle.certificate.specs.Loops.{pick}
 use Rattle.certificate.specs.Facts.{Readable}
-use Rattle.reading.specs.Laid.{LaidOut}
+use Rattle.reading.specs.ReadingResults.{LaidOut}
+use Rattle.certificate.proofs.Loops.{sum-same}
 use Rattle.certificate.proofs.Size.{cells-in-range}
-use Rattle.certificate.specs.Layout.{linksOf, turnsOf, intervalsOf, cellsOf, signalsOf, greenByteOf, entriesOf, cellOf, signalOf}
-use Rattle.network.specs.Network.{networkOf, isGreen, limitOf}
-use Rattle.network.specs.Flow.{gross}
+use Rattle.certificate.specs.Layout.{linksOf, turnsOf, flowOf, intervalsOf, cellsOf, greenByteOf, entriesOf, cellOf, signalOf}
+use Rattle.network.specs.Network.{Network, networkOf}
+use Rattle.network.specs.Flow.{sent, passedIn, gross}
 use Rattle.network.specs.Image.{beside, lowCorner, highCorner}
+use Rattle.network.specs.Sound.{Joined}
 use Rattle.network.specs.Laws.{Screened}
-use Rattle.screening.specs.Roads.{Roads}
+use Rattle.screening.specs.NetworkParts.{NetworkAt}
 use Rattle.supply.specs.Supply.{WithinCaps, at}
-use Rattle.images.specs.Ends.{EndsBefore, limitBy}
-use Rattle.network.proofs.Monotone.{monotone}
-use Rattle.network.proofs.Screening.{sound-of}
+use Rattle.supply.proofs.LeastNumbers.{least-same}
+use Rattle.images.specs.Ends.{LimitsFit, EndsBefore}
+use Rattle.network.proofs.Screening.{joins-of, entry-sound}
 use Rattle.grid.specs.Cells.{intervalIn}
 use Rattle.grid.proofs.Numbers.{is-choice}
 use Rattle.grid.proofs.Edges.{upper-most, cell-lower-below-upper}
+use Rattle.octets.specs.Tables.{Holds}
 use Rattle.cell_tables.specs.Tables.{DigitsOf}
-use Rattle.entry_setup.specs.Tables.{CellEdges, EntryEnds}
+use Rattle.entry_setup.specs.Tables.{CellEdges, EntryLimits, EntryEnds}
 
--- the next queue of a link depends on the queues of the network's links alone
-module _ (s : List ℕ) (S : Screened s) (g : ℕ) (hg : g < signalsOf s) where
-  gross-most : (x y : ℕ → ℕ) → ((k : ℕ) → k < linksOf s → x k ≡ y k) → (l : ℕ) → l < linksOf s
-      → gross (networkOf s) (limitOf s g) 1 x (λ _. 0) l ≤ gross (networkOf s) (limitOf s g) 1 y (λ _. 0) l
-  gross-most x y same l hl =
-      monotone (networkOf s) (isGreen s g) (limitOf s g) (sound-of s S g hg) 1 l hl x y (λ _. 0) (λ _. 0)
-      (record { beside = λ k hk _ _. le-of-eq (sym (same k hk)); other = λ k hk _. le-of-eq (same k hk) })
-      (omega arith) .0
+-- what a link sends, and so the next queue of a link, depends on the limits and the queues of the network's links alone
+module _ (N : Network) (J : Joined N) (limit other x y : ℕ → ℕ) (limits : (k : ℕ) → k < N .links → limit k ≡ other k) (queues : (k : ℕ) → k < N .links → x k ≡ y k) where
+  sent-same : (j : ℕ) → j < N .links → sent N limit 1 x j ≡ sent N other 1 y j
+  unfolding sent
+  sent-same j hj =
+      rw (limits j hj, queues j hj)
+      (least-same (N .turns) _ _ _ _ _ (λ t lt. refl) (λ t lt p. rw (queues (N .to t) (J .to-link t lt)) refl))
 
-  pub gross-same : (x y : ℕ → ℕ) → ((k : ℕ) → k < linksOf s → x k ≡ y k) → (l : ℕ) → l < linksOf s
-      → gross (networkOf s) (limitOf s g) 1 x (λ _. 0) l ≡ gross (networkOf s) (limitOf s g) 1 y (λ _. 0) l
-  gross-same x y same l hl = le-antisymm (gross-most x y same l hl) (gross-most y x (λ k hk. sym (same k hk)) l hl)
+  passed-same : (l : ℕ) → passedIn N limit 1 x l ≡ passedIn N other 1 y l
+  unfolding passedIn
+  passed-same l = sum-same (N .turns) _ _ (λ t lt. rw (sent-same (N .from t) (J .from-link t lt)) refl)
+
+  pub gross-same : (l : ℕ) → l < N .links → gross N limit 1 x (λ _. 0) l ≡ gross N other 1 y (λ _. 0) l
+  unfolding gross
+  gross-same l hl = rw (sent-same l hl, passed-same l, queues l hl) refl
 
 -- corners of boxes that agree on the links
 low-same : (s : List ℕ) (l : ℕ) (a b x y : ℕ → ℕ) (k : ℕ) → a k ≡ x k → b k ≡ y k → lowCorner (networkOf s) l a b k ≡ lowCorner (networkOf s) l x y k
@@ -47,22 +54,24 @@ high-same : (s : List ℕ) (l : ℕ) (a b x y : ℕ → ℕ) (k : ℕ) → a k �
 unfolding highCorner
 high-same s l a b x y k p q = rw (p, q)
 
+-- the limits that the code finds are those of the entry, and small
+pub limits-are : (s limits : List ℕ) (e g byte links : ℕ) → g ≡ signalOf s e → byte ≡ greenByteOf s g → links ≡ linksOf s
+    → Holds links (λ l. pick (bitOf byte l) (flowOf s l) 0) limits → EntryLimits s e limits
+limits-are s limits e g byte links eg eb n found l hl = found l (rw n hl) ∙ rw (eb, eg) refl
+
+pub limits-fit : (s limits : List ℕ) → Screened s → (e : ℕ) → e < entriesOf s → EntryLimits s e limits → LimitsFit s limits
+limits-fit s limits S e he L = record { most = λ l hl. omega (arith, L l hl, entry-sound s S e he .most l hl, S .readable .link l hl) }
+
 -- the code's ends are those of the entry's cell
-pub ends-are : (s : List ℕ) → Screened s → (e byte g : ℕ) (lower upper low high : List ℕ) → e < entriesOf s → CellEdges s (cellOf s e) lower upper
-    → g ≡ signalOf s e → byte ≡ greenByteOf s g → EndsBefore s (limitBy s byte) (at lower) (at upper) low high → EntryEnds s e low high
-ends-are s S e byte g lower upper low high he C eg eb B =
+pub ends-are : (s : List ℕ) → Readable s → (e : ℕ) (limits lower upper low high : List ℕ) → CellEdges s (cellOf s e) lower upper → EntryLimits s e limits
+    → EndsBefore s (at limits) (at lower) (at upper) low high → EntryEnds s e low high
+ends-are s R e limits lower upper low high C L B =
     record {
-      low-is = λ l hl. (rw same at (B .low-is l hl)) ∙ gross-same s S (signalOf s e) hg _ _ (λ k hk. low-same s l _ _ _ _ k (C .lower-is k hk) (C .upper-is k hk)) l hl;
-      high-is = λ l hl. (rw same at (B .high-is l hl)) ∙ gross-same s S (signalOf s e) hg _ _ (λ k hk. high-same s l _ _ _ _ k (C .lower-is k hk) (C .upper-is k hk)) l hl;
+      low-is = λ l hl. B .low-is l hl ∙ gross-same (networkOf s) (joins-of s R) _ _ _ _ L (λ k hk. low-same s l _ _ _ _ k (C .lower-is k hk) (C .upper-is k hk)) l hl;
+      high-is = λ l hl. B .high-is l hl ∙ gross-same (networkOf s) (joins-of s R) _ _ _ _ L (λ k hk. high-same s l _ _ _ _ k (C .lower-is k hk) (C .upper-is k hk)) l hl;
       low-most = B .low-most;
       high-most = B .high-most;
     }
-  where
-    same : byte ≡ greenByteOf s (signalOf s e)
-    same = eb ∙ ap (greenByteOf s) eg
-
-    hg : signalOf s e < signalsOf s
-    hg = S .readable .entry e he .signal
 
 -- an interval that is read from the table of cells exists, and stands within the tables
 pub interval-exists : (s : List ℕ) → Readable s → (digits : List ℕ) → DigitsOf s digits → (c l : ℕ) → c < cellsOf s → l < linksOf s
@@ -84,8 +93,8 @@ edges-within s R c lower upper C = (
 )
 
 -- the roads of a certificate, as its layout has them
-pub layout-roads : (s : List ℕ) (layout : Layout) → Readable s → LaidOut s layout → Roads s (layout .«turns_start») (turnsOf s) (layout .links)
-layout-roads s layout R Y =
+pub layout-network : (s : List ℕ) (layout : Layout) → Readable s → LaidOut s layout → NetworkAt s (layout .«turns_start») (turnsOf s) (layout .links)
+layout-network s layout R Y =
     record {
       readable = R;
       start-is = Y .turns-start-is;

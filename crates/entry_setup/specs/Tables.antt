@@ -1,4 +1,4 @@
--- What judging finds out once of a certificate, as tables, and once of an entry: its task, the edges of its cell, and the ends of its image before arrivals.
+-- What judging finds out once of a certificate, as tables, and once of an entry: its task, the edges of its cell, its limits, and the ends of its image before arrivals.
 use Prim.Native.Nat.{ℕ, _+_, _*_, _/_, _%_, _≤_, _<_}
 use mathlib.Core.List.{List}
 use mathlib.Core.Path.{_≡_}
@@ -6,8 +6,8 @@ use lib.Dec.{eqb}
 use lib.ListN.{getD}
 use Rattle.certificate.specs.Octets.{u16At}
 use Rattle.certificate.specs.Loops.{pick}
-use Rattle.certificate.specs.Layout.{maxEntries, maxBoxes, maxCells, linksOf, modesOf, capOf, cellsOf, boxesOf, arrivalAt, lowOf, highOf, entriesOf, cellOf, signalOf, nextModeOf, rankOf}
-use Rattle.network.specs.Network.{networkOf, limitOf}
+use Rattle.certificate.specs.Layout.{maxModes, maxEntries, maxBoxes, maxCells, linksOf, modesOf, capOf, cellsOf, boxesOf, arrivalAt, lowOf, highOf, entriesOf, cellOf, nextModeOf, rankOf}
+use Rattle.network.specs.Network.{networkOf, entryLimit}
 use Rattle.network.specs.Flow.{gross}
 use Rattle.network.specs.Image.{lowCorner, highCorner}
 use Rattle.network.specs.Laws.{Screened}
@@ -46,18 +46,22 @@ pub record CellEdges (s : List ℕ) (c : ℕ) (lower upper : List ℕ) : Type 0 
   pub lower-is : (l : ℕ) → l < linksOf s → getD lower l 0 ≡ lowerOf s c l
   pub upper-is : (l : ℕ) → l < linksOf s → getD upper l 0 ≡ upperOf s c l
 
--- the ends of the image of entry e's cell under its signal, before arrivals
+-- the most that each link may send under entry e
+abbrev pub EntryLimits : List ℕ → ℕ → List ℕ → Type 0
+EntryLimits s e limits = Holds (linksOf s) (entryLimit s e) limits
+
+-- the ends of the image of entry e's cell under its limits, before arrivals
 pub record EntryEnds (s : List ℕ) (e : ℕ) (low high : List ℕ) : Type 0 where
   pub low-is : (l : ℕ) → l < linksOf s
-      → getD low l 0 ≡ gross (networkOf s) (limitOf s (signalOf s e)) 1 (lowCorner (networkOf s) l (lowerOf s (cellOf s e)) (upperOf s (cellOf s e))) (λ _. 0) l
+      → getD low l 0 ≡ gross (networkOf s) (entryLimit s e) 1 (lowCorner (networkOf s) l (lowerOf s (cellOf s e)) (upperOf s (cellOf s e))) (λ _. 0) l
   pub high-is : (l : ℕ) → l < linksOf s
-      → getD high l 0 ≡ gross (networkOf s) (limitOf s (signalOf s e)) 1 (highCorner (networkOf s) l (lowerOf s (cellOf s e)) (upperOf s (cellOf s e))) (λ _. 0) l
+      → getD high l 0 ≡ gross (networkOf s) (entryLimit s e) 1 (highCorner (networkOf s) l (lowerOf s (cellOf s e)) (upperOf s (cellOf s e))) (λ _. 0) l
   pub low-most : (l : ℕ) → l < linksOf s → getD low l 0 ≤ 10000000000
   pub high-most : (l : ℕ) → l < linksOf s → getD high l 0 ≤ 10000000000
 
--- the most that the table of ranks, which has them raised by one, may have for a successor: a lower rank, or any where the rank is 0
-unfoldable pub limitFor : ℕ → ℕ
-limitFor rank = pick (eqb rank 0) 4294967295 rank
+-- what the table of ranks, which has them raised by one, must stay below for a successor: a lower rank, or any where the rank is 0
+unfoldable pub boundFor : ℕ → ℕ
+boundFor rank = pick (eqb rank 0) 4294967296 (rank + 1)
 
 -- the task of an entry: the numbers are those of the certificate and of the entry, and `row` is where the next mode's ranks stand
 pub record IsTask (s : List ℕ) (task : Task) : Type 0 where
@@ -69,9 +73,9 @@ pub record IsTask (s : List ℕ) (task : Task) : Type 0 where
   pub entry-most : task .entry < maxEntries
   pub next-exists : nextModeOf s (task .entry) < modesOf s
   pub row-is : task .row ≡ nextModeOf s (task .entry) * cellsOf s
-  pub row-fits : task .row + task .cells ≤ 32768
+  pub row-fits : task .row + task .cells ≤ maxModes * maxCells
   pub rank-is : task .rank ≡ rankOf s (task .entry)
-  pub limit-is : task .limit ≡ limitFor (task .rank)
+  pub bound-is : task .bound ≡ boundFor (task .rank)
 
 -- a table of the upper edges of entry e's cell, one a link
 abbrev pub UpperEdges : List ℕ → ℕ → List ℕ → Type 0

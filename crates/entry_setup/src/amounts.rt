@@ -1,16 +1,18 @@
 // Caps and arrivals in ten thousandths of a vehicle, as tables made once for a certificate. `start` is where the boxes begin.
 ghost use mathlib.Core.Path.{_≡_};
 ghost use Prim.Native.Nat.{_≤_, _<_};
-ghost use Rattle.certificate.specs.Layout.{linksOf, boxesOf, arrivalsStart};
+ghost use Rattle.certificate.specs.Layout.{maxBoxes, maxLinks, linksOf, boxesOf, arrivalsStart};
 ghost use Rattle.entry_setup.specs.Tables.{CapsOf, arrivalEntry, ArrivalsOf};
+ghost use Rattle.octets.specs.Bounds.{startBound};
 use box_records::arrivals;
+use certificate::limits;
 use road_records::links as link_records;
 
-pub fn caps_of(s: &[u8], links: usize) -> [usize; 8]
-    requires { ⌜ (links ≤ 8) × (links ≡ linksOf (now s)) ⌝ }
+pub fn caps_of(s: &[u8], links: usize) -> [usize; limits::MAX_LINKS]
+    requires { ⌜ (links ≤ maxLinks) × (links ≡ linksOf (now s)) ⌝ }
     ensures { λ r. ⌜ CapsOf (now (s .entry)) r ⌝ }
 {
-    let mut caps = [0usize; 8];
+    let mut caps = [0usize; limits::MAX_LINKS];
     for l in 0..links {
         caps[l] = 10000 * link_records::cap_of(s, l);
     }
@@ -19,7 +21,7 @@ pub fn caps_of(s: &[u8], links: usize) -> [usize; 8]
 
 // Entry k: field k % 16 of box k / 16. The fields of a box go link by link, the least that arrives and then the most.
 fn amount_at(s: &[u8], start: usize, links: usize, k: usize) -> usize
-    requires { ⌜ (k < 128) × (links ≤ 8) × (links ≡ linksOf (now s)) × (start ≤ 100000) × (start ≡ arrivalsStart (now s)) ⌝ }
+    requires { ⌜ (k < 128) × (links ≤ maxLinks) × (links ≡ linksOf (now s)) × (start ≤ startBound) × (start ≡ arrivalsStart (now s)) ⌝ }
     ensures { λ r. ⌜ r ≡ arrivalEntry (now (s .entry)) k ⌝ }
 {
     let field = arrivals::arrival_at(start, links, k / 16) + (2 + 2 * (k % 16));
@@ -28,7 +30,7 @@ fn amount_at(s: &[u8], start: usize, links: usize, k: usize) -> usize
 
 // Sixteen a box.
 pub fn arrivals_of(s: &[u8], start: usize, links: usize, boxes: usize) -> [usize; 128]
-    requires { ⌜ (boxes ≤ 8) × (boxes ≡ boxesOf (now s)) × (links ≤ 8) × (links ≡ linksOf (now s)) × (start ≤ 100000) × (start ≡ arrivalsStart (now s)) ⌝ }
+    requires { ⌜ (boxes ≤ maxBoxes) × (boxes ≡ boxesOf (now s)) × (links ≤ maxLinks) × (links ≡ linksOf (now s)) × (start ≤ startBound) × (start ≡ arrivalsStart (now s)) ⌝ }
     ensures { λ r. ⌜ ArrivalsOf (now (s .entry)) r ⌝ }
 {
     let mut amounts = [0usize; 128];

@@ -1,34 +1,41 @@
-// What judging finds out once of an entry: its task, the edges of its cell, and the ends of its image before arrivals.
+// What judging finds out once of an entry: its task, the edges of its cell, its limits, and the ends of its image before arrivals.
 ghost use mathlib.Core.Path.{_≡_};
-ghost use Prim.Native.Nat.{_<_};
+ghost use Prim.Native.Nat.{ℕ, _+_, _<_, _≤_};
+ghost use lib.ListN.{length};
+ghost use Rattle.certificate.specs.Octets.{bitOf};
+ghost use Rattle.certificate.specs.Loops.{pick};
 ghost use Rattle.certificate.specs.Facts.{Readable};
-ghost use Rattle.certificate.specs.Layout.{linksOf, intervalsOf, cellsOf, cellOf, entriesOf};
+ghost use Rattle.certificate.specs.Layout.{maxLinks, linkAt, linkSize, linksOf, flowOf, intervalsOf, cellsOf, cellOf, entriesOf};
 ghost use Rattle.grid.specs.Cells.{intervalIn};
-ghost use Rattle.reading.specs.Laid.{LaidOut};
+ghost use Rattle.reading.specs.ReadingResults.{LaidOut};
 ghost use Rattle.network.specs.Laws.{Screened};
+ghost use Rattle.octets.specs.Tables.{Holds};
 ghost use Rattle.supply.specs.Supply.{FirstTurns};
 ghost use Rattle.cell_tables.specs.Tables.{EdgesOf, DigitsOf};
-ghost use Rattle.entry_setup.specs.Tables.{CellEdges, EntryEnds, limitFor, IsTask};
+ghost use Rattle.entry_setup.specs.Tables.{CellEdges, EntryLimits, EntryEnds, boundFor, IsTask};
 use crate::Task;
+use certificate::limits;
 use entry_records::entries;
 use images::ends;
 use octets::numbers;
 use reading::Layout;
+use road_records::links;
 use road_records::signals;
 
 pub struct Edges {
-    pub lower: [usize; 8],
-    pub upper: [usize; 8],
+    pub lower: [usize; limits::MAX_LINKS],
+    pub upper: [usize; limits::MAX_LINKS],
 }
 
-// The most that the table of ranks, which has them raised by one, may have for a successor of an entry of that rank.
-fn limit_for(rank: usize) -> usize
-    ensures { λ r. ⌜ r ≡ limitFor rank ⌝ }
+// What the table of ranks, which has them raised by one, must stay below for a successor of an entry of that rank.
+fn bound_for(rank: usize) -> usize
+    requires { ⌜ rank < 65536 ⌝ }
+    ensures { λ r. ⌜ r ≡ boundFor rank ⌝ }
 {
     if rank == 0 {
-        return 4294967295;
+        return 4294967296;
     }
-    rank
+    rank + 1
 }
 
 // The task of entry e.
@@ -45,7 +52,7 @@ pub fn task_of(s: &[u8], layout: Layout, e: usize) -> Task
         entry: e,
         row: entries::next_mode_of(s, start, e) * cells,
         rank,
-        limit: limit_for(rank),
+        bound: bound_for(rank),
     }
 }
 
@@ -68,8 +75,8 @@ pub fn cell_edges(
     requires { ⌜ Readable (now s) × DigitsOf (now s) (now digits) × EdgesOf (now s) (now edges) × (links ≡ linksOf (now s)) × (cell < cellsOf (now s)) ⌝ }
     ensures { λ r. ⌜ CellEdges (now (s .entry)) cell (r .lower) (r .upper) ⌝ }
 {
-    let mut lower = [0usize; 8];
-    let mut upper = [0usize; 8];
+    let mut lower = [0usize; limits::MAX_LINKS];
+    let mut upper = [0usize; limits::MAX_LINKS];
     for l in 0..links {
         let i = interval_in(s, digits, cell, l);
         lower[l] = edges[16 * l + i];
@@ -78,25 +85,57 @@ pub fn cell_edges(
     Edges { lower, upper }
 }
 
+// The most that link l may send: its flow where it is green by a signal's byte, 0 where it is red.
+fn limit_under(s: &[u8], byte: usize, l: usize) -> usize
+    requires { ⌜ (l < maxLinks) × (linkAt l + linkSize ≤ length (now s)) ⌝ }
+    ensures { λ r. ⌜ r ≡ pick (bitOf byte l) (flowOf (now (s .entry)) l) 0 ⌝ }
+{
+    if signals::is_green(byte, l) {
+        return links::flow_within(s, l);
+    }
+    0
+}
+
+// The same of each link.
+fn limits_under(s: &[u8], links: usize, byte: usize) -> [usize; limits::MAX_LINKS]
+    requires { ⌜ (links ≤ maxLinks) × ((l : ℕ) → l < links → linkAt l + linkSize ≤ length (now s)) ⌝ }
+    ensures { λ r. ⌜ Holds links (λ l. pick (bitOf byte l) (flowOf (now (s .entry)) l) 0) r ⌝ }
+{
+    let mut limits = [0usize; limits::MAX_LINKS];
+    for l in 0..links {
+        limits[l] = limit_under(s, byte, l);
+    }
+    limits
+}
+
+// The most that each link may send under entry e.
+fn entry_limits(s: &[u8], layout: Layout, e: usize) -> [usize; limits::MAX_LINKS]
+    requires { ⌜ Readable (now s) × LaidOut (now s) layout × (e < entriesOf (now s)) ⌝ }
+    ensures { λ r. ⌜ EntryLimits (now (s .entry)) e r ⌝ }
+{
+    let g = entries::signal_of(s, layout.entries_start, e);
+    let byte = signals::green_byte_of(s, layout.signals_start, g);
+    limits_under(s, layout.links, byte)
+}
+
 // The ends of entry e's image before arrivals, given the edges of its cell.
 pub fn entry_ends(
     s: &[u8],
     layout: Layout,
-    first: &[usize; 9],
+    first: &[usize; limits::MAX_LINKS + 1],
     e: usize,
-    lower: &[usize; 8],
-    upper: &[usize; 8],
+    lower: &[usize; limits::MAX_LINKS],
+    upper: &[usize; limits::MAX_LINKS],
 ) -> ends::Ends
     requires { ⌜ Screened (now s) × LaidOut (now s) layout × FirstTurns (now s) (now first) × (e < entriesOf (now s)) × CellEdges (now s) (cellOf (now s) e) (now lower) (now upper) ⌝ }
     ensures { λ r. ⌜ EntryEnds (now (s .entry)) e (r .low) (r .high) ⌝ }
 {
-    let g = entries::signal_of(s, layout.entries_start, e);
-    let byte = signals::green_byte_of(s, layout.signals_start, g);
+    let limits = entry_limits(s, layout, e);
     ends::ends_of(
         s,
         layout.turns_start,
         layout.links,
-        byte,
+        &limits,
         first,
         lower,
         upper,

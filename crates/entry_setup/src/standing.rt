@@ -1,20 +1,21 @@
 // How an entry stands before its successors are looked up: its cell is safe (12), and its rank is 0 exactly at the goal (13).
 ghost use mathlib.Core.Path.{_≡_};
 ghost use Prim.Native.Nat.{_≤_};
-ghost use Rattle.certificate.specs.Layout.{linksOf, rankOf};
-ghost use Rattle.judging.specs.Judging.{isSafe, isGoal, isRanked, standingFault};
+ghost use Rattle.certificate.specs.Layout.{maxEntries, maxLinks, linksOf, rankOf};
+ghost use Rattle.judging.specs.EntryTests.{isSafe, isGoal, isRanked, standingFault};
 ghost use Rattle.entry_setup.specs.Tables.{UpperEdges};
 use certificate::Report;
+use certificate::limits;
 use road_records::links;
 
 // The upper edges of a cell are all at most safe; all at most goal.
-struct Limits {
+struct CellFits {
     safe: bool,
     goal: bool,
 }
 
-fn limits_of(s: &[u8], links: usize, e: usize, upper: &[usize; 8]) -> Limits
-    requires { ⌜ (links ≤ 8) × (links ≡ linksOf (now s)) × UpperEdges (now s) e (now upper) ⌝ }
+fn cell_fits(s: &[u8], links: usize, e: usize, upper: &[usize; limits::MAX_LINKS]) -> CellFits
+    requires { ⌜ (links ≤ maxLinks) × (links ≡ linksOf (now s)) × UpperEdges (now s) e (now upper) ⌝ }
     ensures { λ r. ⌜ (r .safe ≡ isSafe (now (s .entry)) e) × (r .goal ≡ isGoal (now (s .entry)) e) ⌝ }
 {
     let mut safe = true;
@@ -23,7 +24,7 @@ fn limits_of(s: &[u8], links: usize, e: usize, upper: &[usize; 8]) -> Limits
         safe = safe & (upper[l] <= links::safe_of(s, l));
         goal = goal & (upper[l] <= links::goal_of(s, l));
     }
-    Limits { safe, goal }
+    CellFits { safe, goal }
 }
 
 // The rank of entry e is 0 exactly at the goal.
@@ -40,13 +41,13 @@ pub fn check_standing(
     links: usize,
     e: usize,
     rank: usize,
-    upper: &[usize; 8],
+    upper: &[usize; limits::MAX_LINKS],
     count: u32,
 ) -> Report
-    requires { ⌜ (links ≤ 8) × (links ≡ linksOf (now s)) × (e ≤ 4096) × (rank ≡ rankOf (now s) e) × UpperEdges (now s) e (now upper) ⌝ }
+    requires { ⌜ (links ≤ maxLinks) × (links ≡ linksOf (now s)) × (e ≤ maxEntries) × (rank ≡ rankOf (now s) e) × UpperEdges (now s) e (now upper) ⌝ }
     ensures { λ r. ⌜ r ≡ standingFault (now (s .entry)) e count ⌝ }
 {
-    let cell = limits_of(s, links, e, upper);
+    let cell = cell_fits(s, links, e, upper);
     if !cell.safe {
         return octets::report(12, e, 0, count);
     }

@@ -1,3 +1,4 @@
 -- What the calls for other languages answer, and every lent slice afterwards.
 pub mod Exported
 pub mod Calls
+pub mod Laws

@@ -1,18 +1,20 @@
 // The library's calls for programs in other languages, on numbers and slices. Each is thin: it lends what it is lent to a proved call.
+// A call's answer goes to the front of `out`, on refusal too; an `out` that is too short gets 255, and nothing changes.
 ghost use mathlib.Core.Path.{_≡_};
 ghost use Prim.Native.Nat.{_≤_};
-ghost use mathlib.Core.List.{_∷_};
+ghost use mathlib.Core.List.{[], _∷_, _++_};
 ghost use lib.ListN.{length, drop};
 ghost use Rattle.network.specs.Conditions.{screeningOf};
 ghost use Rattle.judging.specs.Verdict.{verdictOf};
-ghost use Rattle.exports.specs.Exported.{overReport, Answers};
-ghost use Rattle.exports.specs.Calls.{Lists, Loads, Queries, Writes};
+ghost use Rattle.exports.specs.Exported.{reportNumbers, Answers};
+ghost use Rattle.exports.specs.Calls.{ListCall, FreshCall, LoadCall, QueryCall, WriteCall};
 use certificate::Report;
+use controller::Controller;
 
 // The four numbers of a report go to the front of `out`; the result is the report's number.
 fn put_report(report: Report, out: &mut [u32]) -> u32
     requires { ⌜ 4 ≤ length (now out) ⌝ }
-    ensures { λ r. ⌜ (r ≡ report .number) × (now (out .exit) ≡ overReport report (now (out .entry))) ⌝ }
+    ensures { λ r. ⌜ (r ≡ report .number) × (now (out .exit) ≡ reportNumbers report ++ drop 4 (now (out .entry))) ⌝ }
 {
     let number = report.number as u32;
     out[0] = number;
@@ -25,7 +27,7 @@ fn put_report(report: Report, out: &mut [u32]) -> u32
 // A query's report, signal and green byte go to the front of `out`; the result is the report's number.
 fn put_shown(report: Report, signal: u8, green: u8, out: &mut [u32]) -> u32
     requires { ⌜ 6 ≤ length (now out) ⌝ }
-    ensures { λ r. ⌜ (r ≡ report .number) × (now (out .exit) ≡ report .number ∷ report .a ∷ report .b ∷ report .count ∷ signal ∷ green ∷ drop 6 (now (out .entry))) ⌝ }
+    ensures { λ r. ⌜ (r ≡ report .number) × (now (out .exit) ≡ (reportNumbers report ++ (signal ∷ green ∷ [])) ++ drop 6 (now (out .entry))) ⌝ }
 {
     let number = put_report(report, out);
     out[4] = signal as u32;
@@ -33,10 +35,10 @@ fn put_shown(report: Report, signal: u8, green: u8, out: &mut [u32]) -> u32
     number
 }
 
-// The tests that come before 12, of any bytes. A slice for the report of fewer than four numbers gets 255 and stays as it was.
+// The tests that come before 12, of any bytes.
 #[no_mangle]
 pub extern "C" fn dergvost_screen(s: &[u8], out: &mut [u32]) -> u32
-    ensures { λ r. ⌜ Answers (screeningOf (now (s .entry))) (now (out .entry)) (now (out .exit)) r ⌝ }
+    ensures { λ r. ⌜ Answers (reportNumbers (screeningOf (now (s .entry)))) (now (out .entry)) (now (out .exit)) r ⌝ }
 {
     if out.len() < 4 {
         return 255;
@@ -45,10 +47,10 @@ pub extern "C" fn dergvost_screen(s: &[u8], out: &mut [u32]) -> u32
     put_report(found.report, out)
 }
 
-// The verdict of any bytes, reported as above.
+// The verdict of any bytes.
 #[no_mangle]
 pub extern "C" fn dergvost_judge(s: &[u8], out: &mut [u32]) -> u32
-    ensures { λ r. ⌜ Answers (verdictOf (now (s .entry))) (now (out .entry)) (now (out .exit)) r ⌝ }
+    ensures { λ r. ⌜ Answers (reportNumbers (verdictOf (now (s .entry)))) (now (out .entry)) (now (out .exit)) r ⌝ }
 {
     if out.len() < 4 {
         return 255;
@@ -57,10 +59,10 @@ pub extern "C" fn dergvost_judge(s: &[u8], out: &mut [u32]) -> u32
     put_report(verdict, out)
 }
 
-// The listing of any bytes into the front of a buffer, reported as above; a report slice too short leaves both as they were.
+// The listing of any bytes into the front of a buffer.
 #[no_mangle]
 pub extern "C" fn dergvost_list(s: &[u8], buffer: &mut [u8], out: &mut [u32]) -> u32
-    ensures { λ r. ⌜ Lists (now (s .entry)) (now (buffer .entry)) (now (buffer .exit)) (now (out .entry)) (now (out .exit)) r ⌝ }
+    ensures { λ r. ⌜ ListCall (now (s .entry)) (now (buffer .entry)) (now (buffer .exit)) (now (out .entry)) (now (out .exit)) r ⌝ }
 {
     if out.len() < 4 {
         return 255;
@@ -69,26 +71,39 @@ pub extern "C" fn dergvost_list(s: &[u8], buffer: &mut [u8], out: &mut [u32]) ->
     put_report(listed, out)
 }
 
-// Loads any bytes into the state that the first slice holds. A state or a report slice too short gets 255 and nothing changes.
+// The fresh state's bytes into a slice of their length; any other length gets 18, and no byte changes.
+#[no_mangle]
+pub extern "C" fn dergvost_fresh(state: &mut [u8]) -> u32
+    ensures { λ r. ⌜ FreshCall (now (state .entry)) (now (state .exit)) r ⌝ }
+{
+    if !packed_state::has_state_size(state) {
+        return 18;
+    }
+    let fresh = Controller::fresh();
+    packed_state::pack(0, fresh, state);
+    0
+}
+
+// Loads any bytes into the state that the first slice holds; any other length gets 18. A refusal leaves its bytes as they were.
+// An accepted load keeps nothing of the state before, so that state is not unpacked.
 #[no_mangle]
 pub extern "C" fn dergvost_load(state: &mut [u8], s: &[u8], out: &mut [u32]) -> u32
-    ensures { λ r. ⌜ Loads (now (s .entry)) (now (state .entry)) (now (state .exit)) (now (out .entry)) (now (out .exit)) r ⌝ }
+    ensures { λ r. ⌜ LoadCall (now (s .entry)) (now (state .entry)) (now (state .exit)) (now (out .entry)) (now (out .exit)) r ⌝ }
 {
-    if state.len() < packed_state::STATE_SIZE {
-        return 255;
-    }
     if out.len() < 4 {
         return 255;
     }
-    let held = packed_state::unpack(state);
-    let loaded = held.load(s);
-    let report = loaded.report;
+    if !packed_state::has_state_size(state) {
+        return put_report(octets::refuse(18, 0), out);
+    }
+    let loaded = Controller::fresh().load(s);
+    let judged = loaded.report;
     let next = loaded.state;
-    packed_state::pack(next, state);
-    put_report(report, out)
+    packed_state::pack(judged.number, next, state);
+    put_report(judged, out)
 }
 
-// What the state shows for queues over a scale, and the next state; a slice too short as above.
+// What the state that is held shows for queues over a scale, and the next state. A refusal leaves its bytes as they were.
 #[no_mangle]
 pub extern "C" fn dergvost_query(
     state: &mut [u8],
@@ -96,13 +111,13 @@ pub extern "C" fn dergvost_query(
     scale: u32,
     out: &mut [u32],
 ) -> u32
-    ensures { λ r. ⌜ Queries (now (queues .entry)) scale (now (state .entry)) (now (state .exit)) (now (out .entry)) (now (out .exit)) r ⌝ }
+    ensures { λ r. ⌜ QueryCall (now (queues .entry)) scale (now (state .entry)) (now (state .exit)) (now (out .entry)) (now (out .exit)) r ⌝ }
 {
-    if state.len() < packed_state::STATE_SIZE {
-        return 255;
-    }
     if out.len() < 6 {
         return 255;
+    }
+    if !packed_state::has_state_size(state) {
+        return put_shown(octets::refuse(18, 0), 0, 0, out);
     }
     let held = packed_state::unpack(state);
     let shown = held.query(queues, scale);
@@ -110,11 +125,11 @@ pub extern "C" fn dergvost_query(
     let signal = shown.signal;
     let green = shown.green;
     let next = shown.state;
-    packed_state::pack(next, state);
+    packed_state::pack(report.number, next, state);
     put_shown(report, signal, green, out)
 }
 
-// Writes the certificate that the state holds into a buffer from start on; a slice too short as above.
+// Writes the certificate that is held into a buffer from start on.
 #[no_mangle]
 pub extern "C" fn dergvost_write(
     state: &[u8],
@@ -122,13 +137,13 @@ pub extern "C" fn dergvost_write(
     start: usize,
     out: &mut [u32],
 ) -> u32
-    ensures { λ r. ⌜ Writes (now (state .entry)) start (now (buffer .entry)) (now (buffer .exit)) (now (out .entry)) (now (out .exit)) r ⌝ }
+    ensures { λ r. ⌜ WriteCall (now (state .entry)) start (now (buffer .entry)) (now (buffer .exit)) (now (out .entry)) (now (out .exit)) r ⌝ }
 {
-    if state.len() < packed_state::STATE_SIZE {
-        return 255;
-    }
     if out.len() < 4 {
         return 255;
+    }
+    if !packed_state::has_state_size(state) {
+        return put_report(octets::refuse(18, 0), out);
     }
     let held = packed_state::unpack(state);
     let report = held.write(buffer, start);

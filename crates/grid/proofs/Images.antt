@@ -3,9 +3,8 @@ use Prim.Native.Nat.{ℕ, _≤_, _<_}
 use mathlib.Core.List.{List}
 use native.Mathlib.Omega.{arith}
 use Rattle.certificate.specs.Layout.{linksOf, lowOf, highOf}
-use Rattle.network.specs.Network.{networkOf, isGreen, limitOf}
+use Rattle.network.specs.Network.{networkOf}
 use Rattle.network.proofs.SmallestBox.{encloses, ends-met}
-use Rattle.network.proofs.Screening.{sound-of}
 use Rattle.grid.specs.Cells.{lowerOf, upperOf}
 use Rattle.grid.specs.Successors.{imageLow, imageHigh}
 use Rattle.grid.specs.Laws.{ImageOf, ImageIsSmallest, AnyBoxHoldsImage}
@@ -13,20 +12,20 @@ use Rattle.grid.proofs.Edges.{cell-lower-below-upper}
 
 pub image-is-smallest : ImageIsSmallest
 unfolding imageLow imageHigh
-image-is-smallest s S g b c hg hb =
+image-is-smallest s R green limit S b c hb =
     let ends =
-    ends-met (networkOf s) (limitOf s g) (lowerOf s c) (upperOf s c) (lowOf s b) (highOf s b)
-    (λ k lt. omega (arith, cell-lower-below-upper s (S .readable) k lt c))
-    (S .readable .box b hb .low-most) in
+    ends-met (networkOf s) limit (lowerOf s c) (upperOf s c) (lowOf s b) (highOf s b)
+    (λ k lt. omega (arith, cell-lower-below-upper s R k lt c))
+    (R .box b hb .low-most) in
     record {
-      holds = encloses (networkOf s) (isGreen s g) (limitOf s g) (sound-of s S g hg) (lowerOf s c) (upperOf s c) (lowOf s b) (highOf s b);
+      holds = encloses (networkOf s) green limit S (lowerOf s c) (upperOf s c) (lowOf s b) (highOf s b);
       low-met = λ l lt. ends l .0;
       high-met = λ l lt. ends l .1;
     }
 
 pub any-box-holds-image : AnyBoxHoldsImage
-any-box-holds-image s S g b c l hg hb lt p q v w h =
-    let I : ImageOf s g b c = image-is-smallest s S g b c hg hb in
+any-box-holds-image s R green limit S b c l hb lt p q v w h =
+    let I : ImageOf s limit b c = image-is-smallest s R green limit S b c hb in
     let low = I .low-met l lt in
     let high = I .high-met l lt in (
       rw (low .4) at (h 1 (low .0) (low .1) (omega arith) (low .2) (low .3) .0),
@@ -34,7 +33,7 @@ any-box-holds-image s S g b c l hg hb lt p q v w h =
     )
 
 -- the low end of an image is not above its high end
-pub low-at-most-high : (s : List ℕ) (g b c l : ℕ) → ImageOf s g b c → l < linksOf s → imageLow s g b c l ≤ imageHigh s g b c l
-low-at-most-high s g b c l I lt =
+pub low-at-most-high : (s : List ℕ) (limit : ℕ → ℕ) (b c l : ℕ) → ImageOf s limit b c → l < linksOf s → imageLow s limit b c l ≤ imageHigh s limit b c l
+low-at-most-high s limit b c l I lt =
     let met = I .low-met l lt in
     omega (arith, I .holds 1 (met .0) (met .1) (met .2) (met .3) l lt)

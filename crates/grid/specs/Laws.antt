@@ -1,15 +1,15 @@
 -- What is proved of intervals, cells, images and successors (proofs/ of this crate). Statements only.
 use Prim.Native.Nat.{ℕ, _+_, _*_, _≤_, _<_}
 use mathlib.Core.List.{List}
-use mathlib.Core.Bool.{true}
+use mathlib.Core.Bool.{Bool, true}
 use mathlib.Core.Logic.{_↔_}
 use mathlib.Core.Path.{_≡_}
-use Rattle.certificate.specs.Layout.{linksOf, capOf, signalsOf, intervalsOf, productOf, cellsOf, boxesOf, lowOf, highOf}
+use Rattle.certificate.specs.Layout.{linksOf, capOf, intervalsOf, productOf, cellsOf, boxesOf, lowOf, highOf}
 use Rattle.certificate.specs.Facts.{Readable}
-use Rattle.network.specs.Network.{networkOf, limitOf}
+use Rattle.network.specs.Network.{networkOf}
 use Rattle.network.specs.Flow.{next}
-use Rattle.network.specs.Sound.{Within}
-use Rattle.network.specs.Laws.{IsMet, Screened}
+use Rattle.network.specs.Sound.{Sound, Within}
+use Rattle.network.specs.Laws.{IsMet}
 use Rattle.grid.specs.Intervals.{InInterval, intervalAt}
 use Rattle.grid.specs.Cells.{numberOf, intervalIn, lowerOf, upperOf, InCell, cellAt}
 use Rattle.grid.specs.Successors.{imageLow, imageHigh, isSuccessor}
@@ -53,47 +53,54 @@ InClosedCell s c D x = Within (linksOf s) (lowerOf s c) (upperOf s c) D x
 abbrev pub InBox : List ℕ → ℕ → ℕ → (ℕ → ℕ) → Type 0
 InBox s b D a = Within (linksOf s) (lowOf s b) (highOf s b) D a
 
+-- The laws of images and successors hold for all limits under which the network is sound (network `Sound`). In a certificate that passes
+-- the tests before 12 those of each signal and of each entry are such (network `ScreenedIsSound`, `EntryIsSound`).
+
 -- Smallest box: the image holds all exact next queues from the closed cell and the arrival box, over every scale, and each end is met
-pub record ImageOf (s : List ℕ) (g b c : ℕ) : Type 0 where
+pub record ImageOf (s : List ℕ) (limit : ℕ → ℕ) (b c : ℕ) : Type 0 where
   pub holds : (D : ℕ) (x a : ℕ → ℕ) → InClosedCell s c D x → InBox s b D a → (l : ℕ) → l < linksOf s
-      → (D * imageLow s g b c l ≤ next (networkOf s) (limitOf s g) D x a l)
-      × (next (networkOf s) (limitOf s g) D x a l ≤ D * imageHigh s g b c l)
+      → (D * imageLow s limit b c l ≤ next (networkOf s) limit D x a l)
+      × (next (networkOf s) limit D x a l ≤ D * imageHigh s limit b c l)
   pub low-met : (l : ℕ) → l < linksOf s
-      → IsMet (networkOf s) (limitOf s g) (lowerOf s c) (upperOf s c) (lowOf s b) (highOf s b) l (imageLow s g b c l)
+      → IsMet (networkOf s) limit (lowerOf s c) (upperOf s c) (lowOf s b) (highOf s b) l (imageLow s limit b c l)
   pub high-met : (l : ℕ) → l < linksOf s
-      → IsMet (networkOf s) (limitOf s g) (lowerOf s c) (upperOf s c) (lowOf s b) (highOf s b) l (imageHigh s g b c l)
+      → IsMet (networkOf s) limit (lowerOf s c) (upperOf s c) (lowOf s b) (highOf s b) l (imageHigh s limit b c l)
 
 abbrev pub ImageIsSmallest : Type 0
 ImageIsSmallest =
-    (s : List ℕ) → Screened s → (g b c : ℕ) → g < signalsOf s → b < boxesOf s → ImageOf s g b c
+    (s : List ℕ) → Readable s → (green : ℕ → Bool) (limit : ℕ → ℕ) → Sound (networkOf s) green limit
+    → (b c : ℕ) → b < boxesOf s → ImageOf s limit b c
 
 -- hence every closed range of fractions p / q .. v / w that holds all next queues of link l holds its image
 abbrev pub AnyBoxHoldsImage : Type 0
 AnyBoxHoldsImage =
-    (s : List ℕ) → Screened s → (g b c l : ℕ) → g < signalsOf s → b < boxesOf s → l < linksOf s → (p q v w : ℕ)
+    (s : List ℕ) → Readable s → (green : ℕ → Bool) (limit : ℕ → ℕ) → Sound (networkOf s) green limit
+    → (b c l : ℕ) → b < boxesOf s → l < linksOf s → (p q v w : ℕ)
     → ((D : ℕ) (x a : ℕ → ℕ) → 1 ≤ D → InClosedCell s c D x → InBox s b D a
-    → (p * (10000 * D) ≤ next (networkOf s) (limitOf s g) D x a l * q)
-    × (next (networkOf s) (limitOf s g) D x a l * w ≤ v * (10000 * D)))
-    → (p * 10000 ≤ imageLow s g b c l * q) × (imageHigh s g b c l * w ≤ v * 10000)
+    → (p * (10000 * D) ≤ next (networkOf s) limit D x a l * q)
+    × (next (networkOf s) limit D x a l * w ≤ v * (10000 * D)))
+    → (p * 10000 ≤ imageLow s limit b c l * q) × (imageHigh s limit b c l * w ≤ v * 10000)
 
 -- an exact point that lies in cell d, edges as stated, and in the closed image of cell c
-pub record PointIn (s : List ℕ) (g b c d : ℕ) : Type 0 where
+pub record PointIn (s : List ℕ) (limit : ℕ → ℕ) (b c d : ℕ) : Type 0 where
   pub scale : ℕ
   pub point : ℕ → ℕ
   pub scale-least : 1 ≤ scale
   pub cell : InCell s d scale point
-  pub low : (l : ℕ) → l < linksOf s → scale * imageLow s g b c l ≤ 10000 * point l
-  pub high : (l : ℕ) → l < linksOf s → 10000 * point l ≤ scale * imageHigh s g b c l
+  pub low : (l : ℕ) → l < linksOf s → scale * imageLow s limit b c l ≤ 10000 * point l
+  pub high : (l : ℕ) → l < linksOf s → 10000 * point l ≤ scale * imageHigh s limit b c l
 
 -- a cell is a successor exactly if some exact point lies in it and in the closed image
 abbrev pub SuccessorIsPoint : Type 0
 SuccessorIsPoint =
-    (s : List ℕ) → Screened s → (g b c d : ℕ) → g < signalsOf s → b < boxesOf s → d < cellsOf s
-    → (isSuccessor s g b c d ≡ true) ↔ PointIn s g b c d
+    (s : List ℕ) → Readable s → (green : ℕ → Bool) (limit : ℕ → ℕ) → Sound (networkOf s) green limit
+    → (b c d : ℕ) → b < boxesOf s → d < cellsOf s
+    → (isSuccessor s limit b c d ≡ true) ↔ PointIn s limit b c d
 
 -- the step: from queues in cell c and arrivals in box b, the next queues' cell is a successor under that box
 abbrev pub StepsToSuccessor : Type 0
 StepsToSuccessor =
-    (s : List ℕ) → Screened s → (g b c d D : ℕ) (x a : ℕ → ℕ) → g < signalsOf s → b < boxesOf s → 1 ≤ D
-    → InCell s c D x → InBox s b D a → InCell s d (10000 * D) (next (networkOf s) (limitOf s g) D x a)
-    → isSuccessor s g b c d ≡ true
+    (s : List ℕ) → Readable s → (green : ℕ → Bool) (limit : ℕ → ℕ) → Sound (networkOf s) green limit
+    → (b c d D : ℕ) (x a : ℕ → ℕ) → b < boxesOf s → 1 ≤ D
+    → InCell s c D x → InBox s b D a → InCell s d (10000 * D) (next (networkOf s) limit D x a)
+    → isSuccessor s limit b c d ≡ true

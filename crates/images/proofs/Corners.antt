@@ -12,7 +12,7 @@ use Rattle.network.specs.Network.{Network}
 use Rattle.network.specs.Flow.{supply, sent, passedIn, gross}
 use Rattle.network.specs.Image.{beside, lowCorner}
 use Rattle.network.specs.Sound.{Joined}
-use Rattle.screening.specs.Roads.{into}
+use Rattle.screening.specs.NetworkParts.{into}
 use Rattle.images.specs.Ends.{pushed}
 use Rattle.supply.proofs.LeastNumbers.{least-same}
 

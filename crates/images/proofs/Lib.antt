@@ -4,4 +4,4 @@ pub mod Caps
 pub mod Corners
 pub mod Outward
 pub mod PassingOn
-pub mod Sides
+pub mod EndsLinkByLink

@@ -10,7 +10,7 @@ use lib.ListN.{length, getD, set, length-set}
 use lib.Seq.{getD-set-same, getD-set-other}
 use Rattle.certificate.specs.Loops.{pick, sumTo}
 use Rattle.certificate.specs.Layout.{linksOf, toOf}
-use Rattle.screening.specs.Roads.{into}
+use Rattle.screening.specs.NetworkParts.{into}
 use Rattle.images.specs.Ends.{PassedOn}
 use Rattle.screening.proofs.Summing.{Summed}
 

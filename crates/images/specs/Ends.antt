@@ -4,18 +4,17 @@ use mathlib.Core.List.{List}
 use mathlib.Core.Path.{_≡_}
 use lib.Dec.{leb, eqb}
 use lib.ListN.{length}
-use Rattle.certificate.specs.Octets.{bitOf}
 use Rattle.certificate.specs.Loops.{pick, sumTo}
-use Rattle.certificate.specs.Layout.{linksOf, flowOf, toOf, shareOf}
+use Rattle.certificate.specs.Layout.{linksOf, toOf, shareOf}
 use Rattle.network.specs.Network.{Network, networkOf}
 use Rattle.network.specs.Flow.{leastTo, supply, sent, gross}
 use Rattle.network.specs.Image.{lowCorner, highCorner}
-use Rattle.screening.specs.Roads.{into}
+use Rattle.screening.specs.NetworkParts.{into}
 use Rattle.supply.specs.Supply.{at}
 
--- the most that link l may send under a signal's byte of green links
-abbrev pub limitBy : List ℕ → ℕ → ℕ → ℕ
-limitBy s byte l = pick (bitOf byte l) (flowOf s l) 0
+-- limits has the most that each link may send, none above 10,000
+pub record LimitsFit (s limits : List ℕ) : Type 0 where
+  pub most : (l : ℕ) → l < linksOf s → at limits l ≤ 10000
 
 -- after is before with what turns from .. end carry, f t each, added to the links that they lead to, and `less` taken from link l
 pub record PassedOn (s : List ℕ) (f : ℕ → ℕ) (from end l less : ℕ) (before after : List ℕ) : Type 0 where
@@ -30,7 +29,7 @@ pushed N limit own other t =
     (min (100 * own (N .from t)) (100 * (1 * limit (N .from t))))
 
 -- side has, of each link, its next queue before arrivals at the corner of own and other queues, as far as the links before l send, in ten thousandths of a vehicle
-pub record Side (s : List ℕ) (limit own other : ℕ → ℕ) (first : List ℕ) (l : ℕ) (side : List ℕ) : Type 0 where
+pub record EndsSoFar (s : List ℕ) (limit own other : ℕ → ℕ) (first : List ℕ) (l : ℕ) (side : List ℕ) : Type 0 where
   pub long : linksOf s ≤ length side
   pub is : (k : ℕ) → k < linksOf s
       → at side k + pick (leb l k) 0 (100 * sent (networkOf s) limit 1 own k)

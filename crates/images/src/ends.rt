@@ -1,27 +1,26 @@
 // The ends of the image of a closed box of queues, before arrivals and with them, in ten thousandths of a vehicle.
-// `start` is where the records of turns begin, `first` has where each link's turns begin, `byte` a signal's green links.
+// `start` is where the records of turns begin, `first` has where each link's turns begin, `limits` the most that each link may send.
 ghost use mathlib.Core.Path.{_≡_};
 ghost use Prim.Native.Nat.{ℕ, _+_, _*_, _<_, _≤_, min};
 ghost use lib.Dec.{eqb};
 ghost use lib.ListN.{length};
 ghost use Rattle.certificate.specs.Loops.{pick};
-ghost use Rattle.certificate.specs.Layout.{linksOf, turnsOf, shareOf};
-ghost use Rattle.screening.specs.Roads.{Roads};
+ghost use Rattle.certificate.specs.Layout.{maxLinks, linksOf, turnsOf, shareOf};
+ghost use Rattle.screening.specs.NetworkParts.{NetworkAt};
 ghost use Rattle.supply.specs.Supply.{at, FirstTurns, WithinCaps, TwoLeast, sentBy};
-ghost use Rattle.images.specs.Ends.{limitBy, PassedOn, Side, EndsBefore};
+ghost use Rattle.images.specs.Ends.{LimitsFit, PassedOn, EndsSoFar, EndsBefore};
+use certificate::limits;
 use octets::numbers;
-use road_records::links;
-use road_records::signals;
 use turn_records::turns;
 
 pub struct Ends {
-    pub low: [usize; 8],
-    pub high: [usize; 8],
+    pub low: [usize; limits::MAX_LINKS],
+    pub high: [usize; limits::MAX_LINKS],
 }
 
 // Ten thousand times each queue.
-fn scale(links: usize, x: &[usize; 8], ends: &mut [usize; 8])
-    requires { ⌜ (links ≤ 8) × ((l : ℕ) → l < links → at (now x) l ≤ 10000) × (length (now ends) ≡ 8) ⌝ }
+fn scale(links: usize, x: &[usize; limits::MAX_LINKS], ends: &mut [usize; limits::MAX_LINKS])
+    requires { ⌜ (links ≤ maxLinks) × ((l : ℕ) → l < links → at (now x) l ≤ 10000) × (length (now ends) ≡ 8) ⌝ }
     ensures { λ _. ⌜ (length (now (ends .exit)) ≡ 8) × ((l : ℕ) → l < links → at (now (ends .exit)) l ≡ 10000 * at (now (x .entry)) l) ⌝ }
 {
     for l in 0..links {
@@ -30,7 +29,13 @@ fn scale(links: usize, x: &[usize; 8], ends: &mut [usize; 8])
 }
 
 // What turn t lets pass: the least of its own supply of `near`, the others' of `far` and the most that its link may send.
-fn sent_by(near: &[usize; 32], far: &[usize; 32], two: supply::Two, most: usize, t: usize) -> usize
+fn sent_by(
+    near: &[usize; limits::MAX_TURNS],
+    far: &[usize; limits::MAX_TURNS],
+    two: supply::Two,
+    most: usize,
+    t: usize,
+) -> usize
     requires { ⌜ t < 32 ⌝ }
     ensures { λ r. ⌜ (r ≡ min (min (at (now (near .entry)) t) (pick (eqb (at (now (far .entry)) t) (two .least)) (two .next) (two .least))) most) × (r ≤ most) ⌝ }
 {
@@ -54,14 +59,14 @@ fn pass_on(
     s: &[u8],
     start: usize,
     sender: Sender,
-    x: &[usize; 8],
-    near: &[usize; 32],
+    x: &[usize; limits::MAX_LINKS],
+    near: &[usize; limits::MAX_TURNS],
     own: supply::Two,
-    far: &[usize; 32],
+    far: &[usize; limits::MAX_TURNS],
     two: supply::Two,
-    ends: &mut [usize; 8],
+    ends: &mut [usize; limits::MAX_LINKS],
 )
-    requires { ⌜ Roads (now s) start (turnsOf (now s)) (linksOf (now s)) × (sender .from ≤ sender .end) × (sender .end ≤ turnsOf (now s)) × (sender .link < linksOf (now s)) × (at (now x) (sender .link) ≤ 10000) × (10000 * at (now x) (sender .link) ≤ at (now ends) (sender .link)) × TwoLeast (at (now far)) (sender .from) (sender .end) (two .least) (two .next) × (linksOf (now s) ≤ length (now ends)) × ((k : ℕ) → k < linksOf (now s) → at (now ends) k ≤ 100000000 + sender .from * 255000000) ⌝ }
+    requires { ⌜ NetworkAt (now s) start (turnsOf (now s)) (linksOf (now s)) × (sender .from ≤ sender .end) × (sender .end ≤ turnsOf (now s)) × (sender .link < linksOf (now s)) × (at (now x) (sender .link) ≤ 10000) × (10000 * at (now x) (sender .link) ≤ at (now ends) (sender .link)) × TwoLeast (at (now far)) (sender .from) (sender .end) (two .least) (two .next) × (linksOf (now s) ≤ length (now ends)) × ((k : ℕ) → k < linksOf (now s) → at (now ends) k ≤ 100000000 + sender .from * 255000000) ⌝ }
     ensures { λ _. ⌜ PassedOn (now (s .entry)) (λ t. shareOf (now (s .entry)) t * sentBy (at (now (near .entry))) (at (now (far .entry))) (sender .from) (sender .end) (min (100 * at (now (x .entry)) (sender .link)) (sender .flow)) t) (sender .from) (sender .end) (sender .link) (100 * min (own .least) (min (100 * at (now (x .entry)) (sender .link)) (sender .flow))) (now (ends .entry)) (now (ends .exit)) ⌝ }
 {
     let l = sender.link;
@@ -76,25 +81,26 @@ fn pass_on(
     }
 }
 
-// The ends of the low and the high side once link l has sent too: nothing where it is red.
+// The ends of the low and the high side once link l has sent too: nothing where its limit is 0.
 // `lows` and `highs` are lent for the supplies of its turns at the lower and the upper queues.
 fn send(
     s: &[u8],
     start: usize,
-    byte: usize,
-    first: &[usize; 9],
-    lower: &[usize; 8],
-    upper: &[usize; 8],
+    limits: &[usize; limits::MAX_LINKS],
+    first: &[usize; limits::MAX_LINKS + 1],
+    lower: &[usize; limits::MAX_LINKS],
+    upper: &[usize; limits::MAX_LINKS],
     l: usize,
-    lows: &mut [usize; 32],
-    highs: &mut [usize; 32],
-    low: &mut [usize; 8],
-    high: &mut [usize; 8],
+    lows: &mut [usize; limits::MAX_TURNS],
+    highs: &mut [usize; limits::MAX_TURNS],
+    low: &mut [usize; limits::MAX_LINKS],
+    high: &mut [usize; limits::MAX_LINKS],
 )
-    requires { ⌜ Roads (now s) start (turnsOf (now s)) (linksOf (now s)) × FirstTurns (now s) (now first) × WithinCaps (now s) (now lower) × WithinCaps (now s) (now upper) × (l < linksOf (now s)) × Side (now s) (limitBy (now s) byte) (at (now lower)) (at (now upper)) (now first) l (now low) × Side (now s) (limitBy (now s) byte) (at (now upper)) (at (now lower)) (now first) l (now high) × (length (now lows) ≡ 32) × (length (now highs) ≡ 32) ⌝ }
-    ensures { λ _. ⌜ Side (now (s .entry)) (limitBy (now (s .entry)) byte) (at (now (lower .entry))) (at (now (upper .entry))) (now (first .entry)) (l + 1) (now (low .exit)) × Side (now (s .entry)) (limitBy (now (s .entry)) byte) (at (now (upper .entry))) (at (now (lower .entry))) (now (first .entry)) (l + 1) (now (high .exit)) × (length (now (lows .exit)) ≡ 32) × (length (now (highs .exit)) ≡ 32) ⌝ }
+    requires { ⌜ NetworkAt (now s) start (turnsOf (now s)) (linksOf (now s)) × FirstTurns (now s) (now first) × WithinCaps (now s) (now lower) × WithinCaps (now s) (now upper) × (l < linksOf (now s)) × LimitsFit (now s) (now limits) × EndsSoFar (now s) (at (now limits)) (at (now lower)) (at (now upper)) (now first) l (now low) × EndsSoFar (now s) (at (now limits)) (at (now upper)) (at (now lower)) (now first) l (now high) × (length (now lows) ≡ 32) × (length (now highs) ≡ 32) ⌝ }
+    ensures { λ _. ⌜ EndsSoFar (now (s .entry)) (at (now (limits .entry))) (at (now (lower .entry))) (at (now (upper .entry))) (now (first .entry)) (l + 1) (now (low .exit)) × EndsSoFar (now (s .entry)) (at (now (limits .entry))) (at (now (upper .entry))) (at (now (lower .entry))) (now (first .entry)) (l + 1) (now (high .exit)) × (length (now (lows .exit)) ≡ 32) × (length (now (highs .exit)) ≡ 32) ⌝ }
 {
-    if !signals::is_green(byte, l) {
+    let limit = limits[l];
+    if limit == 0 {
         return;
     }
     let from = first[l];
@@ -102,7 +108,7 @@ fn send(
     let least = supply::supplies(s, start, from, end, lower, upper, lows, highs);
     let lowest = least.lower;
     let highest = least.upper;
-    let flow = 100 * links::flow_within(s, l);
+    let flow = 100 * limit;
     let sender = Sender {
         link: l,
         from,
@@ -118,25 +124,25 @@ pub fn ends_of(
     s: &[u8],
     start: usize,
     links: usize,
-    byte: usize,
-    first: &[usize; 9],
-    lower: &[usize; 8],
-    upper: &[usize; 8],
+    limits: &[usize; limits::MAX_LINKS],
+    first: &[usize; limits::MAX_LINKS + 1],
+    lower: &[usize; limits::MAX_LINKS],
+    upper: &[usize; limits::MAX_LINKS],
 ) -> Ends
-    requires { ⌜ Roads (now s) start (turnsOf (now s)) links × FirstTurns (now s) (now first) × WithinCaps (now s) (now lower) × WithinCaps (now s) (now upper) ⌝ }
-    ensures { λ r. ⌜ EndsBefore (now (s .entry)) (limitBy (now (s .entry)) byte) (at (now (lower .entry))) (at (now (upper .entry))) (r .low) (r .high) ⌝ }
+    requires { ⌜ NetworkAt (now s) start (turnsOf (now s)) links × FirstTurns (now s) (now first) × WithinCaps (now s) (now lower) × WithinCaps (now s) (now upper) × LimitsFit (now s) (now limits) ⌝ }
+    ensures { λ r. ⌜ EndsBefore (now (s .entry)) (at (now (limits .entry))) (at (now (lower .entry))) (at (now (upper .entry))) (r .low) (r .high) ⌝ }
 {
-    let mut lows = [0usize; 32];
-    let mut highs = [0usize; 32];
-    let mut low = [0usize; 8];
-    let mut high = [0usize; 8];
+    let mut lows = [0usize; limits::MAX_TURNS];
+    let mut highs = [0usize; limits::MAX_TURNS];
+    let mut low = [0usize; limits::MAX_LINKS];
+    let mut high = [0usize; limits::MAX_LINKS];
     scale(links, lower, &mut low);
     scale(links, upper, &mut high);
     for l in 0..links {
         send(
             s,
             start,
-            byte,
+            limits,
             first,
             lower,
             upper,

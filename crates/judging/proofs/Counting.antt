@@ -5,7 +5,8 @@ use mathlib.Core.Bool.{Bool, true, false}
 use native.Mathlib.Nat.{suc-mul, mul-one, mul-assoc, le-trans, mul-le-mul-right}
 use native.Mathlib.Omega.{arith}
 use Rattle.certificate.specs.Loops.{pick, sumTo}
-use Rattle.certificate.specs.Layout.{cellsOf, boxesOf, entriesOf, cellOf, signalOf}
+use Rattle.certificate.specs.Layout.{cellsOf, boxesOf, entriesOf, cellOf}
+use Rattle.network.specs.Network.{entryLimit}
 use Rattle.grid.specs.Successors.{isSuccessor}
 use Rattle.judging.specs.Conditions.{looked, lookedCells, lookedBoxes, lookedEntries}
 
@@ -17,7 +18,7 @@ sum-most (suc n) k f h = rw suc-mul (omega (arith, sum-most n k f h, h n))
 
 module _ (s : List ℕ) where
   cells-most : (e b d : ℕ) → lookedCells s e b d ≤ d
-  cells-most e b d = rw mul-one at (sum-most d 1 (looked s e b) (λ t. one (isSuccessor s (signalOf s e) b (cellOf s e) t)))
+  cells-most e b d = rw mul-one at (sum-most d 1 (looked s e b) (λ t. one (isSuccessor s (entryLimit s e) b (cellOf s e) t)))
     where
       one : (q : Bool) → pick q 1 0 ≤ 1
       one true = omega arith

@@ -14,7 +14,7 @@ use Rattle.certificate.proofs.Tests.{and-both, both-and}
 use Rattle.certificate.proofs.Loops.{every-each, each-every, found, find-least}
 use Rattle.grid.specs.Cells.{upperOf}
 use Rattle.judging.specs.Lookup.{isFor, entryFor, isListed}
-use Rattle.judging.specs.Judging.{isSafe, isGoal, isRanked, isLower}
+use Rattle.judging.specs.EntryTests.{isSafe, isGoal, isRanked, isLower}
 use Rattle.judging.specs.Conditions.{SafeCell, GoalCell, RankFits, Lists, ListedNext, LowerNext}
 use Rattle.judging.proofs.Deciding.{Tells}
 

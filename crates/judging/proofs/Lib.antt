@@ -2,11 +2,11 @@
 pub mod Deciding
 pub mod Looping
 pub mod Entries
-pub mod Judged
 pub mod Screens
 pub mod Counting
 pub mod Stages
 pub mod Outcome
+pub mod Asking
+pub mod EntryOutcomes
 pub mod Verdicts
 pub mod PlaceBounds
-pub mod Asking

@@ -3,11 +3,14 @@ use Prim.Native.Nat.{ℕ, _*_, _≤_, _<_}
 use mathlib.Core.List.{List}
 use mathlib.Core.Bool.{cond}
 use mathlib.Core.Path.{_≡_, refl, sym, ap, _∙_}
+use mathlib.Core.Logic.{_⊎_, inl, inr, ⊎-elim}
 use native.Mathlib.Omega.{arith}
 use lib.Dec.{eqb}
 use Rattle.certificate.specs.declared.Report.{Report}
 use Rattle.certificate.specs.Checks.{result}
 use Rattle.certificate.specs.Layout.{cellsOf, boxesOf, entriesOf}
+use Rattle.certificate.specs.Laws.{ReadingNumber}
+use Rattle.certificate.proofs.Numbers.{reading-apart}
 use Rattle.network.specs.Laws.{Screened}
 use Rattle.judging.specs.Conditions.{SafeCell, RankFits, ListedNext, LowerNext, EntryHolds, lookedEntries}
 use Rattle.judging.specs.Laws.{PullTooHigh, RoomTooSmall, Reaches, ReachesCell}
@@ -70,15 +73,20 @@ at-number not-lower = refl
 pub same-stage : (j k : Stage) → stageNumber j ≡ stageNumber k → j ≡ k
 same-stage j k e = sym (at-number j) ∙ ap stageAt e ∙ at-number k
 
--- no stage's number is above 15, and that of a refusal is above those of reading
-pub number-range : (k : Stage) → (stageNumber k ≤ 15) × ((stageNumber k ≡ 0 → ⊥) → 10 ≤ stageNumber k)
-number-range accepts = omega arith
-number-range pull-high = omega arith
-number-range room-small = omega arith
-number-range cell-unsafe = omega arith
-number-range rank-unfit = omega arith
-number-range not-listed = omega arith
-number-range not-lower = omega arith
+-- the number of a stage: 0, or 10 to 15
+pub stage-range : (k : Stage) → (stageNumber k ≡ 0) ⊎ ((10 ≤ stageNumber k) × (stageNumber k ≤ 15))
+stage-range accepts = inl refl
+stage-range pull-high = inr (omega arith)
+stage-range room-small = inr (omega arith)
+stage-range cell-unsafe = inr (omega arith)
+stage-range rank-unfit = inr (omega arith)
+stage-range not-listed = inr (omega arith)
+stage-range not-lower = inr (omega arith)
+
+-- so a refusal of reading is that of no stage
+pub stage-apart : (k : Stage) (n : ℕ) → ReadingNumber n → (n ≡ 0 → ⊥) → n ≡ stageNumber k → ⊥
+stage-apart k n number bad e =
+    ⊎-elim (λ z. bad (e ∙ z)) (λ (range : (10 ≤ stageNumber k) × (stageNumber k ≤ 15)). omega (arith, reading-apart n number)) (stage-range k)
 
 cell-most : (s : List ℕ) (e d n : ℕ) → ReachesCell s e d n → n ≤ entriesOf s * boxesOf s * cellsOf s
 cell-most s e d n c = rw (c .count) (cells-fit s e (c .box) d (c .reaches .entry) (c .box-exists) (c .cell))

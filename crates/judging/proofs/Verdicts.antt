@@ -2,7 +2,7 @@
 use Prim.Native.Nat.{ℕ, _+_, _*_, _≤_}
 use mathlib.Core.List.{List}
 use mathlib.Core.Path.{_≡_, refl, sym, ap, _∙_}
-use mathlib.Core.Logic.{_↔_, ⊎-elim}
+use mathlib.Core.Logic.{_↔_, _⊎_, inl, inr, ⊎-elim}
 use native.Mathlib.Omega.{arith}
 use lib.ListN.{take}
 use lib.Seq.{take-all}
@@ -14,16 +14,18 @@ use Rattle.certificate.proofs.Plain.{reading-is-plain}
 use Rattle.certificate.proofs.Size.{readable-fits}
 use Rattle.certificate.proofs.LongInput.{long-input}
 use Rattle.certificate.proofs.Tests.{or-next, or-stop, both-or, passes}
-use Rattle.certificate.proofs.Numbers.{reading-up-to}
+use Rattle.certificate.specs.Laws.{ReadingNumber, up-to-nine}
+use Rattle.certificate.proofs.Numbers.{of-reading, reading-numbers}
+use Rattle.certificate.proofs.Refusals.{refusals}
 use Rattle.network.specs.Conditions.{pullsFault, roomsFault, screeningOf}
 use Rattle.network.specs.Laws.{Screened}
 use Rattle.network.proofs.Screening.{screening-is-plain}
-use Rattle.judging.specs.Judging.{judgingFrom}
+use Rattle.judging.specs.EntryTests.{judgingFrom}
 use Rattle.judging.specs.Verdict.{verdictOf}
-use Rattle.judging.specs.Laws.{AcceptedIsPlain, AcceptedCount, CountFits, NumberFits, VerdictOfLong, RefusedReading, RefusedPull, RefusedRoom, RefusedUnsafe, RefusedRank, RefusedUnlisted, RefusedNotLower}
-use Rattle.judging.proofs.Judged.{unsafe-stops, rank-stops, judged-whole, judged-stops, judged-unlisted, judged-higher}
+use Rattle.judging.specs.Laws.{AcceptedIsPlain, AcceptedCount, CountFits, NumberFits, VerdictOfLong, RefusedReading, RefusedRecord, RefusedPull, RefusedRoom, RefusedUnsafe, RefusedRank, RefusedUnlisted, RefusedNotLower}
+use Rattle.judging.proofs.EntryOutcomes.{unsafe-stops, rank-stops, judged-whole, judged-stops, judged-unlisted, judged-higher}
 use Rattle.judging.proofs.Screens.{PullsFit, RoomsFit, pulls-fine, rooms-fine, pulls-refuse, rooms-refuse, pulls-split, rooms-split}
-use Rattle.judging.proofs.Stages.{Stage, accepts, pull-high, room-small, cell-unsafe, rank-unfit, not-listed, not-lower, stageNumber, Falls, Fallen, resultOf, same-stage, number-range, count-most}
+use Rattle.judging.proofs.Stages.{Stage, accepts, pull-high, room-small, cell-unsafe, rank-unfit, not-listed, not-lower, stageNumber, Falls, Fallen, resultOf, same-stage, stage-range, stage-apart, count-most}
 use Rattle.judging.proofs.Outcome.{fallen-judged}
 
 -- what refuses before judging is the verdict
@@ -89,9 +91,7 @@ stage-law : (s : List ℕ) (k : Stage) (a b n : ℕ) → (verdictOf s ≡ result
 stage-law s k a b n = (by-stage s (λ r. r ≡ result (stageNumber k) a b n → Falls s k a b n) refused falls, verdict-falls s k a b n)
   where
     refused : (readingOf s .number ≡ 0 → ⊥) → readingOf s ≡ result (stageNumber k) a b n → Falls s k a b n
-    refused bad e =
-        let same : readingOf s .number ≡ stageNumber k = ap (λ (r : Report). r .number) e in
-        absurd (omega (arith, reading-up-to s .most, number-range k .1 (λ z. bad (same ∙ z))))
+    refused bad e = absurd (stage-apart k _ (reading-numbers s) bad (ap (λ (r : Report). r .number) e))
 
     falls : (f : Fallen s) → resultOf s f ≡ result (stageNumber k) a b n → Falls s k a b n
     falls f e =
@@ -117,11 +117,14 @@ accepted-count s z = let f = accepted s z in verdict-falls s accepts 0 0 _ (f .0
 pub count-fits : CountFits
 count-fits s =
     by-stage s (λ r. r .count ≤ entriesOf s * boxesOf s * cellsOf s)
-    (λ _. rw (reading-up-to s .no-count) (omega arith))
+    (λ _. rw (of-reading s .no-count) (omega arith))
     (λ f. count-most s (f .stage) (f .a) (f .b) (f .count) (f .falls))
 
 pub number-fits : NumberFits
-number-fits s = by-stage s (λ r. r .number ≤ 15) (λ _. omega (arith, reading-up-to s .most)) (λ f. number-range (f .stage) .0)
+number-fits s =
+    by-stage s (λ r. ReadingNumber (r .number) ⊎ ((10 ≤ r .number) × (r .number ≤ 15)))
+    (λ _. inl (reading-numbers s))
+    (λ f. ⊎-elim (λ z. inl (rw z (up-to-nine (omega arith)))) inr (stage-range (f .stage)))
 
 pub verdict-of-long : VerdictOfLong
 verdict-of-long s = ⊎-elim reads refused (passes (readingOf s))
@@ -133,12 +136,13 @@ verdict-of-long s = ⊎-elim reads refused (passes (readingOf s))
     refused bad = reading-refuses s bad ∙ long-input s ∙ sym (reading-refuses _ (rw (long-input s) at bad))
 
 pub refused-reading : RefusedReading
-refused-reading s r bad most = (by-stage s (λ v. v ≡ r → readingOf s ≡ r) (λ _ e. e) falls, (λ e. reading-refuses s (rw e bad) ∙ e))
+refused-reading s r bad number = (by-stage s (λ v. v ≡ r → readingOf s ≡ r) (λ _ e. e) falls, (λ e. reading-refuses s (rw e bad) ∙ e))
   where
     falls : (f : Fallen s) → resultOf s f ≡ r → readingOf s ≡ r
-    falls f e =
-        let same : stageNumber (f .stage) ≡ r .number = ap (λ (t : Report). t .number) e in
-        absurd (omega (arith, number-range (f .stage) .1 (λ z. bad (sym same ∙ z))))
+    falls f e = absurd (stage-apart (f .stage) _ number bad (sym (ap (λ (t : Report). t .number) e)))
+
+pub refused-record : RefusedRecord
+refused-record = refusals verdictOf refused-reading
 
 pub refused-pull : RefusedPull
 refused-pull s = stage-law s pull-high

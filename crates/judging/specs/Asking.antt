@@ -8,13 +8,10 @@ use Rattle.certificate.specs.declared.Report.{Report}
 use Rattle.certificate.specs.Octets.{_also_}
 use Rattle.certificate.specs.Loops.{every}
 use Rattle.certificate.specs.Checks.{refusal, fine, need}
-use Rattle.certificate.specs.Layout.{linksOf, capOf}
+use Rattle.certificate.specs.Layout.{maxScale, linksOf, capOf}
 use Rattle.grid.specs.Cells.{cellAt}
 use Rattle.judging.specs.Lookup.{isListed}
 use mathlib.Core.Path.{_≡_}
-
-abbrev pub maxScale : ℕ
-maxScale = 100000
 
 -- a query's queue of link l, a whole number over the scale
 abbrev pub queueAt : List ℕ → ℕ → ℕ
@@ -31,12 +28,14 @@ isProper s queues scale =
 abbrev pub cellAsked : List ℕ → List ℕ → ℕ → ℕ
 cellAsked s queues scale = cellAt s scale (queueAt queues)
 
--- 16, then 19: no entry for the queues' cell in the current mode
+-- 19: no entry for cell d in the mode
+unfoldable pub cellFault : List ℕ → ℕ → ℕ → Report
+cellFault s mode d = need (isListed s d mode) (refusal 19 0) fine
+
+-- 16, then 19 for the queues' cell in the current mode
 unfoldable pub lookupFault : List ℕ → ℕ → List ℕ → ℕ → Report
 lookupFault s mode queues scale =
-    need (isProper s queues scale) (refusal 16 0)
-    (need (isListed s (cellAsked s queues scale) mode) (refusal 19 0)
-    fine)
+    need (isProper s queues scale) (refusal 16 0) (cellFault s mode (cellAsked s queues scale))
 
 -- what 16 asks: scale 1 to 100,000, as many queues as links, no queue above cap × scale
 pub record Proper (s queues : List ℕ) (scale : ℕ) : Type 0 where

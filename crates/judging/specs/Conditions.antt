@@ -5,7 +5,8 @@ use mathlib.Core.Bool.{true}
 use mathlib.Core.Logic.{_↔_, _⊎_}
 use mathlib.Core.Path.{_≡_}
 use Rattle.certificate.specs.Loops.{pick, sumTo}
-use Rattle.certificate.specs.Layout.{linksOf, safeOf, goalOf, cellsOf, boxesOf, entriesOf, cellOf, modeOf, signalOf, nextModeOf, rankOf}
+use Rattle.certificate.specs.Layout.{linksOf, safeOf, goalOf, cellsOf, boxesOf, entriesOf, cellOf, modeOf, nextModeOf, rankOf}
+use Rattle.network.specs.Network.{entryLimit}
 use Rattle.grid.specs.Cells.{upperOf}
 use Rattle.grid.specs.Successors.{isSuccessor}
 
@@ -29,7 +30,7 @@ pub record Lists (s : List ℕ) (d m f : ℕ) : Type 0 where
 
 -- cell d is a successor of entry e's cell under its signal and arrival box b
 abbrev pub Follows : List ℕ → ℕ → ℕ → ℕ → Type 0
-Follows s e b d = isSuccessor s (signalOf s e) b (cellOf s e) d ≡ true
+Follows s e b d = isSuccessor s (entryLimit s e) b (cellOf s e) d ≡ true
 
 -- cell d is listed with entry e's next mode
 abbrev pub ListedNext : List ℕ → ℕ → ℕ → Type 0
@@ -51,7 +52,7 @@ pub record EntryHolds (s : List ℕ) (e : ℕ) : Type 0 where
 
 -- 1 for a successor looked up, 0 for a cell passed over
 abbrev pub looked : List ℕ → ℕ → ℕ → ℕ → ℕ
-looked s e b d = pick (isSuccessor s (signalOf s e) b (cellOf s e) d) 1 0
+looked s e b d = pick (isSuccessor s (entryLimit s e) b (cellOf s e) d) 1 0
 
 -- how many are looked up for entry e under box b before cell d, for entry e before box b, before entry e
 abbrev pub lookedCells : List ℕ → ℕ → ℕ → ℕ → ℕ

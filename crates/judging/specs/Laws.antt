@@ -1,15 +1,16 @@
 -- What is proved of the verdict (proofs/ of this crate). Statements only.
 use Prim.Native.Nat.{ℕ, _+_, _*_, _≤_, _<_}
 use mathlib.Core.List.{List}
-use mathlib.Core.Logic.{_↔_}
+use mathlib.Core.Logic.{_↔_, _⊎_}
 use mathlib.Core.Path.{_≡_}
 use lib.ListN.{length, take}
 use Rattle.certificate.specs.declared.Report.{Report}
 use Rattle.certificate.specs.Checks.{result}
-use Rattle.certificate.specs.Layout.{maxLength, linksOf, turnsOf, signalsOf, cellsOf, boxesOf, entriesOf, capOf, flowOf, fromOf, toOf, pullOf}
+use Rattle.certificate.specs.Layout.{maxPullSum, maxLength, linksOf, turnsOf, signalsOf, cellsOf, boxesOf, entriesOf}
 use Rattle.certificate.specs.Reading.{readingOf}
+use Rattle.certificate.specs.Laws.{ReadingNumber, Refusals}
 use Rattle.network.specs.Network.{networkOf, isGreen}
-use Rattle.network.specs.Conditions.{pullSum, roomOk, screeningOf}
+use Rattle.network.specs.Conditions.{pullSum, roomOk}
 use Rattle.network.specs.Laws.{Screened}
 use Rattle.judging.specs.Verdict.{verdictOf}
 use Rattle.judging.specs.Conditions.{SafeCell, RankFits, Follows, ListedNext, LowerNext, SuccessorHolds, EntryHolds, lookedCells, lookedBoxes, lookedEntries, PlaceBefore}
@@ -28,14 +29,14 @@ AcceptedCount = (s : List ℕ) → verdictOf s .number ≡ 0 → verdictOf s ≡
 abbrev pub CountFits : Type 0
 CountFits = (s : List ℕ) → verdictOf s .count ≤ entriesOf s * boxesOf s * cellsOf s
 
--- the numbers of a verdict are 0 to 15
+-- the number of a verdict is one of reading's, or 10 to 15
 abbrev pub NumberFits : Type 0
-NumberFits = (s : List ℕ) → verdictOf s .number ≤ 15
+NumberFits = (s : List ℕ) → ReadingNumber (verdictOf s .number) ⊎ ((10 ≤ verdictOf s .number) × (verdictOf s .number ≤ 15))
 
 -- the places of a result: A and B are below the number of what they name; an offset is at most the length; a place that is not named is 0
 pub record Places (s : List ℕ) (r : Report) : Type 0 where
   pub accepted : r .number ≡ 0 → (r .a ≡ 0) × (r .b ≡ 0)
-  pub reading : 1 ≤ r .number → r .number ≤ 9 → (r .a ≤ length s) × (r .b ≡ 0)
+  pub reading : ReadingNumber (r .number) → (r .a ≤ length s) × (r .b ≡ 0)
   pub pull : r .number ≡ 10 → (r .a < signalsOf s) × (r .b < linksOf s)
   pub room : r .number ≡ 11 → (r .a < turnsOf s) × (r .b ≡ 0)
   pub entry : 12 ≤ r .number → r .number ≤ 13 → (r .a < entriesOf s) × (r .b ≡ 0)
@@ -53,15 +54,19 @@ VerdictOfLong = (s : List ℕ) → verdictOf s ≡ verdictOf (take (maxLength + 
 -- 1 to 9: reading refuses
 abbrev pub RefusedReading : Type 0
 RefusedReading =
-    (s : List ℕ) (r : Report) → (r .number ≡ 0 → ⊥) → r .number ≤ 9 → (verdictOf s ≡ r) ↔ (readingOf s ≡ r)
+    (s : List ℕ) (r : Report) → (r .number ≡ 0 → ⊥) → ReadingNumber (r .number) → (verdictOf s ≡ r) ↔ (readingOf s ≡ r)
+
+-- so each of 1 to 9 exactly if the record that is due has that fault (crate certificate, specs/Laws.antt)
+abbrev pub RefusedRecord : Type 0
+RefusedRecord = Refusals verdictOf
 
 -- 10: signal g and link l are the first, signals then links ascending, whose pull sum is above 10,000
 pub record PullTooHigh (s : List ℕ) (g l : ℕ) : Type 0 where
   pub read : readingOf s .number ≡ 0
   pub signal : g < signalsOf s
   pub link : l < linksOf s
-  pub high : 10000 < pullSum (networkOf s) (isGreen s g) l
-  pub before : (h k : ℕ) → h < signalsOf s → k < linksOf s → PlaceBefore h k g l → pullSum (networkOf s) (isGreen s h) k ≤ 10000
+  pub high : maxPullSum < pullSum (networkOf s) (isGreen s g) l
+  pub before : (h k : ℕ) → h < signalsOf s → k < linksOf s → PlaceBefore h k g l → pullSum (networkOf s) (isGreen s h) k ≤ maxPullSum
 
 abbrev pub RefusedPull : Type 0
 RefusedPull =
@@ -70,7 +75,7 @@ RefusedPull =
 -- 11: turn t is the first whose flow condition fails, and no pull sum is too high
 pub record RoomTooSmall (s : List ℕ) (t : ℕ) : Type 0 where
   pub read : readingOf s .number ≡ 0
-  pub pulls : (h k : ℕ) → h < signalsOf s → k < linksOf s → pullSum (networkOf s) (isGreen s h) k ≤ 10000
+  pub pulls : (h k : ℕ) → h < signalsOf s → k < linksOf s → pullSum (networkOf s) (isGreen s h) k ≤ maxPullSum
   pub turn : t < turnsOf s
   pub small : roomOk s t ≡ false
   pub before : (u : ℕ) → u < t → roomOk s u ≡ true

@@ -5,7 +5,7 @@ use mathlib.Core.Path.{_≡_, sym, _∙_, ap}
 use native.Mathlib.Omega.{arith}
 use Rattle.certificate.specs.declared.Report.{Report}
 use Rattle.reading.specs.declared.Reading.{Reading}
-use Rattle.reading.specs.Laid.{ReadAs}
+use Rattle.reading.specs.ReadingResults.{ReadAs}
 use Rattle.network.specs.Conditions.{screeningOf}
 use Rattle.network.proofs.Screening.{screening-is-plain}
 use Rattle.judging.specs.Verdict.{verdictOf}
@@ -13,7 +13,8 @@ use Rattle.judging.proofs.Verdicts.{accepted-is-plain}
 use Rattle.listing.specs.Entries.{EntriesAt}
 use Rattle.listing_text.specs.Listing.{acceptedText, listingOf, Sent}
 use Rattle.listing_text.specs.Lines.{refusedLine}
-use Rattle.listing.proofs.Sending.{text-accepted, text-refused, listed}
+use Rattle.listing_text.proofs.Listings.{text-accepted, text-refused}
+use Rattle.listing.proofs.Sending.{listed}
 
 module _ (s : List ℕ) (r : Report) (verdict : r ≡ verdictOf s) {buffer after : List ℕ} {answer : Report} where
   pub list-refused : (r .number ≡ 0 → ⊥) → Sent (refusedLine r) buffer after answer → Sent (listingOf s) buffer after answer

@@ -4,6 +4,10 @@ ghost use Rattle.listing_text.specs.Listing.{listingOf, Sent};
 mod render;
 
 use certificate::Report;
+use certificate::limits;
+
+// A buffer of this length has room for every listing (listing_text `maxListing`): the line of counts, the entries, the last line.
+pub const MAX_TEXT: usize = 60 + 23 * limits::MAX_ENTRIES + 20;
 
 // Renders the listing of s into the front of the lent buffer: 0 with A the length of the text, or 17 and the buffer as it was.
 pub fn list(s: &[u8], buffer: &mut [u8]) -> Report

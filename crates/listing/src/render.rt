@@ -2,22 +2,22 @@
 ghost use mathlib.Core.Path.{_≡_};
 ghost use Prim.Native.Nat.{_≤_};
 ghost use lib.ListN.{length};
-ghost use Rattle.text.specs.Place.{Room, Put};
+ghost use Rattle.text.specs.TextPut.{Room, Put};
 ghost use Rattle.listing.specs.Entries.{EntriesAt};
 ghost use Rattle.listing_text.specs.Lines.{refusedLine};
 ghost use Rattle.listing_text.specs.Listing.{acceptedText, textOf, Sent};
+ghost use Rattle.octets.specs.Bounds.{offsetBound};
 use certificate::Report;
-use listing_lines::fields;
 use listing_lines::lengths;
 use listing_lines::lines;
 
 // The text of an accepted certificate: how long it is.
 fn text_length(s: &[u8], start: usize, report: Report) -> usize
     requires { ⌜ EntriesAt (now s) start ⌝ }
-    ensures { λ r. ⌜ (r ≡ length (acceptedText (now (s .entry)) report)) × (r ≤ 1000000) ⌝ }
+    ensures { λ r. ⌜ (r ≡ length (acceptedText (now (s .entry)) report)) × (r ≤ offsetBound) ⌝ }
 {
     lengths::counts_length(s)
-        + lengths::entries_length(s, start, fields::entries_of(s))
+        + lengths::entries_length(s, start, header_record::entries_of(s))
         + lengths::accepted_length(report)
 }
 
@@ -27,7 +27,7 @@ fn put_text(buffer: &mut [u8], s: &[u8], start: usize, report: Report) -> usize
     ensures { λ r. ⌜ Put (now (buffer .entry)) 0 (acceptedText (now (s .entry)) report) (now (buffer .exit)) r ⌝ }
 {
     let first = lines::put_counts(buffer, 0, s);
-    let last = lines::put_entries(buffer, first, s, start, fields::entries_of(s));
+    let last = lines::put_entries(buffer, first, s, start, header_record::entries_of(s));
     lines::put_accepted(buffer, last, report)
 }
 

@@ -1,9 +1,8 @@
 -- The lines of a listing as words and lines of numbers. Assumes nothing.
 use mathlib.Core.Path.{_≡_, refl}
 use mathlib.Core.List.{List, [], _∷_, _++_, append-assoc}
-use Prim.Native.Nat.{ℕ, _+_, _≤_}
+use Prim.Native.Nat.{ℕ, _≤_}
 use native.Mathlib.Omega.{arith}
-use native.Mathlib.Numerals.{add-one}
 use lib.ListN.{length, length-append}
 use Rattle.certificate.proofs.Ascending.{grows}
 use Rattle.certificate.specs.declared.Report.{Report}
@@ -51,19 +50,6 @@ from-links s = count linksWord (linksOf s) ++ from-turns s
 pub counts-is : (s : List ℕ) → countsLine s ≡ from-links s
 unfolding countsLine
 counts-is s = simp append-assoc
-
-pub length-counts : (s : List ℕ)
-    → length (countsLine s) ≡ 49 + length (decimal (linksOf s)) + length (decimal (turnsOf s)) + length (decimal (signalsOf s))
-    + length (decimal (modesOf s)) + length (decimal (boxesOf s)) + length (decimal (entriesOf s))
-length-counts s = rw counts-is (simp length-append (omega arith))
-
--- one more entry
-pub lines-more : (s : List ℕ) (e : ℕ) → entryLines s (e + 1) ≡ entryLines s e ++ entryLine s e
-unfolding entryLines
-lines-more s e = rw add-one
-
-pub length-more : (s : List ℕ) (e : ℕ) → length (entryLines s (e + 1)) ≡ length (entryLines s e) + length (entryLine s e)
-length-more s e = rw (lines-more, length-append)
 
 -- fewer lines are no longer
 pub lines-grow : (s : List ℕ) (e n : ℕ) → e ≤ n → length (entryLines s e) ≤ length (entryLines s n)

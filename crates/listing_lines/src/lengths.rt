@@ -2,10 +2,10 @@
 ghost use mathlib.Core.Path.{_≡_};
 ghost use Prim.Native.Nat.{_+_, _*_, _<_, _≤_};
 ghost use lib.ListN.{length};
-ghost use Rattle.certificate.specs.Octets.{byteAt};
-ghost use Rattle.certificate.specs.Layout.{entriesStart};
+ghost use Rattle.certificate.specs.Layout.{maxEntries, entriesStart};
 ghost use Rattle.listing_text.specs.Text.{decimal};
 ghost use Rattle.listing_text.specs.Lines.{countsLine, entryLine, entryLines, acceptedLine, refusedLine};
+ghost use Rattle.octets.specs.Bounds.{startBound};
 use crate::fields;
 use certificate::Report;
 
@@ -17,27 +17,27 @@ fn field_length(word: &[u8], n: u32) -> usize
     word.len() + text::decimal_length(n) + 1
 }
 
-// A word, the count that stands as a byte at an offset of s, and the byte after them.
-fn count_length(word: &[u8], s: &[u8], o: usize) -> usize
-    requires { ⌜ length (now word) ≤ 10 ⌝ }
-    ensures { λ r. ⌜ (r ≡ length (now (word .entry)) + length (decimal (byteAt (now (s .entry)) o)) + 1) × (r ≤ 21) ⌝ }
+// The same with a count of HD.
+fn count_length(word: &[u8], n: usize) -> usize
+    requires { ⌜ (length (now word) ≤ 10) × (n < 65536) ⌝ }
+    ensures { λ r. ⌜ (r ≡ length (now (word .entry)) + length (decimal n) + 1) × (r ≤ 21) ⌝ }
 {
-    field_length(word, octets::byte_at(s, o) as u32)
+    field_length(word, n as u32)
 }
 
 pub fn counts_length(s: &[u8]) -> usize
     ensures { λ r. ⌜ (r ≡ length (countsLine (now (s .entry)))) × (r ≤ 126) ⌝ }
 {
-    count_length(b"links ", s, 2)
-        + count_length(b"turns ", s, 3)
-        + count_length(b"signals ", s, 4)
-        + count_length(b"modes ", s, 5)
-        + count_length(b"arrivals ", s, 6)
-        + field_length(b"entries ", fields::entries_of(s) as u32)
+    count_length(b"links ", header_record::links_of(s))
+        + count_length(b"turns ", header_record::turns_of(s))
+        + count_length(b"signals ", header_record::signals_of(s))
+        + count_length(b"modes ", header_record::modes_of(s))
+        + count_length(b"arrivals ", header_record::boxes_of(s))
+        + count_length(b"entries ", header_record::entries_of(s))
 }
 
 fn entry_length(s: &[u8], start: usize, e: usize) -> usize
-    requires { ⌜ (e ≤ 4096) × (start ≤ 100000) × (start ≡ entriesStart (now s)) ⌝ }
+    requires { ⌜ (e ≤ maxEntries) × (start ≤ startBound) × (start ≡ entriesStart (now s)) ⌝ }
     ensures { λ r. ⌜ (r ≡ length (entryLine (now (s .entry)) e)) × (r ≤ 55) ⌝ }
 {
     let numbers = fields::entry_numbers(s, start, e);
@@ -46,7 +46,7 @@ fn entry_length(s: &[u8], start: usize, e: usize) -> usize
 
 // The lines of the entries before n.
 pub fn entries_length(s: &[u8], start: usize, n: usize) -> usize
-    requires { ⌜ (n ≤ 4096) × (start ≤ 100000) × (start ≡ entriesStart (now s)) ⌝ }
+    requires { ⌜ (n ≤ maxEntries) × (start ≤ startBound) × (start ≡ entriesStart (now s)) ⌝ }
     ensures { λ r. ⌜ (r ≡ length (entryLines (now (s .entry)) n)) × (r ≤ 55 * n) ⌝ }
 {
     let mut total = 0;

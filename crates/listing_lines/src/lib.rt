@@ -1,4 +1,4 @@
 // The lines of a listing: how long each is, and putting it into a lent buffer.
-pub mod fields;
+mod fields;
 pub mod lengths;
 pub mod lines;

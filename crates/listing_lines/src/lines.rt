@@ -2,42 +2,42 @@
 ghost use mathlib.Core.Path.{_≡_};
 ghost use mathlib.Core.List.{_++_};
 ghost use Prim.Native.Nat.{_<_, _≤_};
-ghost use Rattle.certificate.specs.Octets.{byteAt};
-ghost use Rattle.certificate.specs.Layout.{entriesStart};
+ghost use Rattle.certificate.specs.Layout.{maxEntries, entriesStart};
 ghost use Rattle.listing_text.specs.Text.{decimal, space};
 ghost use Rattle.listing_text.specs.Lines.{countsLine, entryLine, entryLines, acceptedLine, refusedLine};
-ghost use Rattle.text.specs.Place.{Room, Put};
+ghost use Rattle.text.specs.TextPut.{Room, Put};
+ghost use Rattle.octets.specs.Bounds.{startBound};
 use crate::fields;
 use certificate::Report;
 
-// A word, and the count that stands as a byte at an offset of s.
-fn put_count(buffer: &mut [u8], at: usize, word: &[u8], s: &[u8], o: usize) -> usize
-    requires { ⌜ Room (now buffer) at (now word ++ (decimal (byteAt (now s) o) ++ space)) ⌝ }
-    ensures { λ r. ⌜ Put (now (buffer .entry)) at (now (word .entry) ++ (decimal (byteAt (now (s .entry)) o) ++ space)) (now (buffer .exit)) r ⌝ }
+// A word, a count of HD, and a space.
+fn put_count(buffer: &mut [u8], at: usize, word: &[u8], n: usize) -> usize
+    requires { ⌜ (n < 65536) × Room (now buffer) at (now word ++ (decimal n ++ space)) ⌝ }
+    ensures { λ r. ⌜ Put (now (buffer .entry)) at (now (word .entry) ++ (decimal n ++ space)) (now (buffer .exit)) r ⌝ }
 {
-    text::put_field(buffer, at, word, octets::byte_at(s, o) as u32, b' ')
+    text::put_field(buffer, at, word, n as u32, b' ')
 }
 
 pub fn put_counts(buffer: &mut [u8], at: usize, s: &[u8]) -> usize
     requires { ⌜ Room (now buffer) at (countsLine (now s)) ⌝ }
     ensures { λ r. ⌜ Put (now (buffer .entry)) at (countsLine (now (s .entry))) (now (buffer .exit)) r ⌝ }
 {
-    let turns = put_count(buffer, at, b"links ", s, 2);
-    let signals = put_count(buffer, turns, b"turns ", s, 3);
-    let modes = put_count(buffer, signals, b"signals ", s, 4);
-    let arrivals = put_count(buffer, modes, b"modes ", s, 5);
-    let entries = put_count(buffer, arrivals, b"arrivals ", s, 6);
+    let turns = put_count(buffer, at, b"links ", header_record::links_of(s));
+    let signals = put_count(buffer, turns, b"turns ", header_record::turns_of(s));
+    let modes = put_count(buffer, signals, b"signals ", header_record::signals_of(s));
+    let arrivals = put_count(buffer, modes, b"modes ", header_record::modes_of(s));
+    let entries = put_count(buffer, arrivals, b"arrivals ", header_record::boxes_of(s));
     text::put_field(
         buffer,
         entries,
         b"entries ",
-        fields::entries_of(s) as u32,
+        header_record::entries_of(s) as u32,
         b'\n',
     )
 }
 
 fn put_entry(buffer: &mut [u8], at: usize, s: &[u8], start: usize, e: usize) -> usize
-    requires { ⌜ (e ≤ 4096) × (start ≤ 100000) × (start ≡ entriesStart (now s)) × Room (now buffer) at (entryLine (now s) e) ⌝ }
+    requires { ⌜ (e ≤ maxEntries) × (start ≤ startBound) × (start ≡ entriesStart (now s)) × Room (now buffer) at (entryLine (now s) e) ⌝ }
     ensures { λ r. ⌜ Put (now (buffer .entry)) at (entryLine (now (s .entry)) e) (now (buffer .exit)) r ⌝ }
 {
     let numbers = fields::entry_numbers(s, start, e);
@@ -46,7 +46,7 @@ fn put_entry(buffer: &mut [u8], at: usize, s: &[u8], start: usize, e: usize) -> 
 
 // The lines of the entries before n.
 pub fn put_entries(buffer: &mut [u8], at: usize, s: &[u8], start: usize, n: usize) -> usize
-    requires { ⌜ (n ≤ 4096) × (start ≤ 100000) × (start ≡ entriesStart (now s)) × Room (now buffer) at (entryLines (now s) n) ⌝ }
+    requires { ⌜ (n ≤ maxEntries) × (start ≤ startBound) × (start ≡ entriesStart (now s)) × Room (now buffer) at (entryLines (now s) n) ⌝ }
     ensures { λ r. ⌜ Put (now (buffer .entry)) at (entryLines (now (s .entry)) n) (now (buffer .exit)) r ⌝ }
 {
     let mut next = at;

@@ -7,7 +7,7 @@ use mathlib.Core.Logic.{⊎-elim, _↔_}
 use native.Mathlib.Omega.{arith}
 use borrow.Author.Tests.{leb-true, le-leb}
 use Rattle.certificate.specs.Loops.{pick}
-use Rattle.certificate.specs.Layout.{linksOf, turnsOf, signalsOf, capOf, flowOf, fromOf, toOf, pullOf}
+use Rattle.certificate.specs.Layout.{linksOf, turnsOf, signalsOf, capOf, flowOf, fromOf, toOf, pullOf, signalOf}
 use Rattle.certificate.specs.Reading.{readingOf}
 use Rattle.certificate.specs.Facts.{Readable}
 use Rattle.certificate.proofs.Plain.{readable-of, of-readable}
@@ -15,7 +15,7 @@ use Rattle.certificate.proofs.Tests.{need-both, need-pass, or-both, both-or, al
 use Rattle.network.specs.Network.{networkOf, isGreen}
 use Rattle.network.specs.Conditions.{pullSum, pullFault, signalPullsFault, pullsFault, roomOk, roomFault, roomsFault, screeningOf}
 use Rattle.network.specs.Sound.{Joined}
-use Rattle.network.specs.Laws.{Screened, ScreeningIsPlain, ScreenedIsSound}
+use Rattle.network.specs.Laws.{Screened, ScreeningIsPlain, ScreenedIsSound, EntryIsSound}
 
 -- pairs (from, to) ascend, so none stands twice
 apart : (s : List ℕ) → Readable s → (t u : ℕ) → t < u → u < turnsOf s → fromOf s t ≡ fromOf s u → toOf s t ≡ toOf s u → ⊥
@@ -50,6 +50,9 @@ sound-of s C g hg =
     go : (q : Bool) (m : ℕ) → pick q m 0 ≤ m
     go true m = omega arith
     go false m = omega arith
+
+pub entry-sound : EntryIsSound
+entry-sound s C e he = sound-of s C (signalOf s e) (C .readable .entry e he .signal)
 
 -- condition 10, tested for every signal and link
 abbrev pub PullsFit : List ℕ → Type 0

@@ -6,7 +6,7 @@ use lib.Dec.{leb, eqb}
 use Rattle.certificate.specs.declared.Report.{Report}
 use Rattle.certificate.specs.Loops.{pick, sumTo}
 use Rattle.certificate.specs.Checks.{result, refusal, fine, need, orElse, firstBad}
-use Rattle.certificate.specs.Layout.{linksOf, turnsOf, signalsOf, capOf, flowOf, fromOf, toOf, shareOf, pullOf}
+use Rattle.certificate.specs.Layout.{maxPullSum, linksOf, turnsOf, signalsOf, capOf, flowOf, fromOf, toOf, shareOf, pullOf}
 use Rattle.certificate.specs.Reading.{readingOf}
 use Rattle.network.specs.Network.{Network, networkOf, isGreen}
 
@@ -17,7 +17,7 @@ pullSum N green l =
 
 -- 10: for each signal and link, that sum is at most 10,000. A = signal, B = link; signals, then links ascending
 unfoldable pub pullFault : List ℕ → ℕ → ℕ → Report
-pullFault s g l = need (leb (pullSum (networkOf s) (isGreen s g) l) 10000) (result 10 g l 0) fine
+pullFault s g l = need (leb (pullSum (networkOf s) (isGreen s g) l) maxPullSum) (result 10 g l 0) fine
 
 unfoldable pub signalPullsFault : List ℕ → ℕ → Report
 signalPullsFault s g = firstBad (linksOf s) (pullFault s g)

@@ -5,8 +5,8 @@ use mathlib.Core.Bool.{Bool}
 use mathlib.Core.Path.{_≡_}
 use mathlib.Core.Logic.{_↔_}
 use Rattle.certificate.specs.Facts.{Readable}
-use Rattle.certificate.specs.Layout.{linksOf, turnsOf, signalsOf, capOf, flowOf, fromOf, toOf, pullOf}
-use Rattle.network.specs.Network.{Network, networkOf, isGreen, limitOf}
+use Rattle.certificate.specs.Layout.{maxPullSum, linksOf, turnsOf, signalsOf, capOf, flowOf, fromOf, toOf, pullOf, entriesOf, signalOf}
+use Rattle.network.specs.Network.{Network, networkOf, isGreen, limitOf, entryLimit}
 use Rattle.network.specs.Flow.{gross, next}
 use Rattle.network.specs.Conditions.{pullSum, screeningOf}
 use Rattle.network.specs.Image.{lowEnd, highEnd}
@@ -74,7 +74,7 @@ Smallest =
 -- a certificate that passes the tests before 12 is readable, and under each signal its network is sound
 pub record Screened (s : List ℕ) : Type 0 where
   pub readable : Readable s
-  pub pulls : (g l : ℕ) → g < signalsOf s → l < linksOf s → pullSum (networkOf s) (isGreen s g) l ≤ 10000
+  pub pulls : (g l : ℕ) → g < signalsOf s → l < linksOf s → pullSum (networkOf s) (isGreen s g) l ≤ maxPullSum
   pub room : (t : ℕ) → t < turnsOf s → 100 * flowOf s (fromOf s t) ≤ pullOf s t * (capOf s (toOf s t) - flowOf s (toOf s t))
 
 abbrev pub ScreeningIsPlain : Type 0
@@ -82,3 +82,7 @@ ScreeningIsPlain = (s : List ℕ) → (screeningOf s .number ≡ 0) ↔ Screened
 
 abbrev pub ScreenedIsSound : Type 0
 ScreenedIsSound = (s : List ℕ) → Screened s → (g : ℕ) → g < signalsOf s → Sound (networkOf s) (isGreen s g) (limitOf s g)
+
+-- hence under each entry
+abbrev pub EntryIsSound : Type 0
+EntryIsSound = (s : List ℕ) → Screened s → (e : ℕ) → e < entriesOf s → Sound (networkOf s) (isGreen s (signalOf s e)) (entryLimit s e)

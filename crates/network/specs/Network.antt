@@ -4,7 +4,7 @@ use mathlib.Core.List.{List}
 use mathlib.Core.Bool.{Bool}
 use Rattle.certificate.specs.Octets.{bitOf}
 use Rattle.certificate.specs.Loops.{pick}
-use Rattle.certificate.specs.Layout.{linksOf, turnsOf, tailOf, headOf, capOf, flowOf, fromOf, toOf, shareOf, pullOf, greenByteOf}
+use Rattle.certificate.specs.Layout.{linksOf, turnsOf, tailOf, headOf, capOf, flowOf, fromOf, toOf, shareOf, pullOf, greenByteOf, signalOf}
 
 -- links lead from their tail junction to their head junction; a turn t leads from link `from t` to link `to t`
 pub record Network : Type 0 where
@@ -42,3 +42,7 @@ isGreen s g l = bitOf (greenByteOf s g) l
 -- the most that link l may send in a step under signal g: its flow where it is green, 0 where it is red
 abbrev pub limitOf : List ℕ → ℕ → ℕ → ℕ
 limitOf s g l = pick (isGreen s g l) (flowOf s l) 0
+
+-- the most that each link may send in a step under entry e: its limit under the entry's signal
+abbrev pub entryLimit : List ℕ → ℕ → ℕ → ℕ
+entryLimit s e = limitOf s (signalOf s e)

@@ -2,6 +2,7 @@
 use Prim.Native.Nat.{ℕ, _+_, _*_, _-_, _≤_, _<_}
 use mathlib.Core.Bool.{Bool, false}
 use mathlib.Core.Path.{_≡_}
+use Rattle.certificate.specs.Layout.{maxPullSum}
 use Rattle.network.specs.Network.{Network}
 use Rattle.network.specs.Conditions.{pullSum}
 
@@ -16,7 +17,7 @@ pub record Joined (N : Network) : Type 0 where
 -- conditions 10 and 11 under a signal, and limits that are 0 on red links and at most flow on green ones
 pub record Sound (N : Network) (green : ℕ → Bool) (limit : ℕ → ℕ) : Type 0 where
   pub joins : Joined N
-  pub pulls : (l : ℕ) → l < N .links → pullSum N green l ≤ 10000
+  pub pulls : (l : ℕ) → l < N .links → pullSum N green l ≤ maxPullSum
   pub room : (t : ℕ) → t < N .turns → 100 * N .flow (N .from t) ≤ N .pull t * (N .cap (N .to t) - N .flow (N .to t))
   pub red : (l : ℕ) → l < N .links → green l ≡ false → limit l ≡ 0
   pub most : (l : ℕ) → l < N .links → limit l ≤ N .flow l

@@ -1,2 +1,3 @@
 -- What the code that fills tables goes by.
 pub mod Tables
+pub mod Bounds

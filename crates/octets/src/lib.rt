@@ -4,6 +4,7 @@ ghost use Prim.Native.Nat.{_+_, _<_, _≤_};
 ghost use lib.ListN.{length};
 ghost use Rattle.certificate.specs.Octets.{byteAt, u16At};
 ghost use Rattle.certificate.specs.Checks.{result, refusal, fine, need, orElse, marked, opened};
+ghost use Rattle.octets.specs.Bounds.{offsetBound};
 
 pub mod filling;
 pub mod numbers;
@@ -23,7 +24,7 @@ pub fn byte_at(s: &[u8], at: usize) -> usize
 
 // The two-byte number at an offset, high byte first.
 pub fn u16_at(s: &[u8], at: usize) -> usize
-    requires { ⌜ at ≤ 1000000 ⌝ }
+    requires { ⌜ at ≤ offsetBound ⌝ }
     ensures { λ r. ⌜ (r ≡ u16At (now (s .entry)) at) × (r < 65536) ⌝ }
 {
     byte_at(s, at) * 256 + byte_at(s, at + 1)
@@ -38,7 +39,7 @@ pub fn byte_within(s: &[u8], at: usize) -> usize
 }
 
 pub fn u16_within(s: &[u8], at: usize) -> usize
-    requires { ⌜ (at ≤ 1000000) × (at + 1 < length (now s)) ⌝ }
+    requires { ⌜ (at ≤ offsetBound) × (at + 1 < length (now s)) ⌝ }
     ensures { λ r. ⌜ (r ≡ u16At (now (s .entry)) at) × (r < 65536) ⌝ }
 {
     byte_within(s, at) * 256 + byte_within(s, at + 1)
@@ -46,7 +47,7 @@ pub fn u16_within(s: &[u8], at: usize) -> usize
 
 // A result: number, places A and B, count.
 pub fn report(number: u8, a: usize, b: usize, count: u32) -> Report
-    requires { ⌜ (a ≤ 1000000) × (b ≤ 1000000) ⌝ }
+    requires { ⌜ (a ≤ offsetBound) × (b ≤ offsetBound) ⌝ }
     ensures { λ r. ⌜ r ≡ result number a b count ⌝ }
 {
     Report {
@@ -69,7 +70,7 @@ pub fn accept() -> Report
 }
 
 pub fn refuse(number: u8, a: usize) -> Report
-    requires { ⌜ a ≤ 1000000 ⌝ }
+    requires { ⌜ a ≤ offsetBound ⌝ }
     ensures { λ r. ⌜ r ≡ refusal number a ⌝ }
 {
     Report {
@@ -82,21 +83,29 @@ pub fn refuse(number: u8, a: usize) -> Report
 
 // The two-byte mark at o is m and k.
 pub fn marked_as(s: &[u8], o: usize, m: usize, k: usize) -> bool
-    requires { ⌜ (o ≤ 1000000) × (o + 2 ≤ length (now s)) ⌝ }
+    requires { ⌜ o ≤ offsetBound ⌝ }
+    ensures { λ r. ⌜ r ≡ marked (now (s .entry)) o m k ⌝ }
+{
+    (byte_at(s, o) == m) & (byte_at(s, o + 1) == k)
+}
+
+// The same where the mark is known to lie within: no test.
+pub fn marked_within(s: &[u8], o: usize, m: usize, k: usize) -> bool
+    requires { ⌜ (o ≤ offsetBound) × (o + 2 ≤ length (now s)) ⌝ }
     ensures { λ r. ⌜ r ≡ marked (now (s .entry)) o m k ⌝ }
 {
     (byte_within(s, o) == m) & (byte_within(s, o + 1) == k)
 }
 
-// The record at o: its mark m k present (1), right (2), and all of its size there (1).
-pub fn check_opened(s: &[u8], o: usize, m: usize, k: usize, size: usize) -> Report
-    requires { ⌜ (o ≤ 1000000) × (size ≤ 1000) ⌝ }
-    ensures { λ r. ⌜ r ≡ opened (now (s .entry)) o m k size ⌝ }
+// The record at o: its mark present (1), right (2), which `mark` says, and all of its size there (1).
+pub fn check_opened(s: &[u8], o: usize, mark: bool, size: usize) -> Report
+    requires { ⌜ (o ≤ offsetBound) × (size ≤ 1000) ⌝ }
+    ensures { λ r. ⌜ r ≡ opened (now (s .entry)) o mark size ⌝ }
 {
     if s.len() < o + 2 {
         return refuse(1, o);
     }
-    if !marked_as(s, o, m, k) {
+    if !mark {
         return refuse(2, o);
     }
     if s.len() < o + size {
@@ -117,7 +126,7 @@ pub fn or_else(first: Report, second: Report) -> Report
 
 // A record's result: its opening where that refuses, else the refusal of that number where its fields are not as they must be.
 pub fn record_result(opening: Report, ok: bool, number: u8, o: usize) -> Report
-    requires { ⌜ o ≤ 1000000 ⌝ }
+    requires { ⌜ o ≤ offsetBound ⌝ }
     ensures { λ r. ⌜ r ≡ orElse opening (need ok (refusal number o) fine) ⌝ }
 {
     if opening.number != 0 {

@@ -1,4 +1,4 @@
--- Eight bytes of a length, and the state read back.
+-- Eight bytes of a length, the copies, and the state unpacked again.
 pub mod Octets
 pub mod Packing
 pub mod Passing

@@ -5,13 +5,18 @@ use mathlib.Core.Path.{_≡_}
 use lib.ListN.{length}
 use Rattle.certificate.specs.Layout.{maxLength}
 use Rattle.controller.specs.declared.Controller.{Controller}
-use Rattle.packed_state.specs.State.{stateOf, overState}
+use Rattle.controller.specs.Laws.{HoldsCertificate}
+use Rattle.packed_state.specs.State.{stateSize, heldIn, stateBytes}
 
--- a state's array has 37,763 bytes, and its length is below 2 to the 64: of every value of the type this is so
-pub record Whole (c : Controller) : Type 0 where
+-- a state's array has its full length, and the length that it says is below 2 to the 64: of every value of the type this is so
+pub record WholeState (c : Controller) : Type 0 where
   pub size : length (c .bytes) ≡ maxLength
   pub small : c .len < 18446744073709551616
 
--- the state that is read back is the one that was put there
-abbrev pub ReadsBack : Type 0
-ReadsBack = (c : Controller) (s : List ℕ) → Whole c → stateOf (overState c s) ≡ c
+-- the state that is held in a state's bytes is that state
+abbrev pub UnpacksAgain : Type 0
+UnpacksAgain = (c : Controller) → WholeState c → heldIn (stateBytes c) ≡ c
+
+-- a slice of any other length holds no certificate
+abbrev pub OtherLengthHoldsNone : Type 0
+OtherLengthHoldsNone = (s : List ℕ) → (length s ≡ stateSize → ⊥) → HoldsCertificate (heldIn s) → ⊥

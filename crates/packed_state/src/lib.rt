@@ -3,19 +3,26 @@ ghost use mathlib.Core.Path.{_≡_};
 ghost use mathlib.Core.List.{_++_};
 ghost use Prim.Native.Nat.{_≤_, _<_};
 ghost use lib.ListN.{length, drop};
-ghost use Rattle.packed_state.specs.State.{quadAt, eightAt, octetOf, tailOf, stateSize, stateOf, overState};
+ghost use Rattle.packed_state.specs.State.{quadAt, eightAt, octetOf, stateTailSize, stateTail, stateSize, hasStateSize, heldIn, bytesAfter};
+ghost use Rattle.octets.specs.Bounds.{entryBound};
 use controller::Controller;
 use octets::filling;
 
-// The array, the length's eight bytes, the mode.
-pub const STATE_SIZE: usize = Controller::SIZE + 9;
+// The bytes of the length.
+const LENGTH_SIZE: usize = 8;
+
+// The bytes of the length and the mode.
+const TAIL_SIZE: usize = LENGTH_SIZE + 1;
 
 // Where the mode stands.
-const MODE_AT: usize = Controller::SIZE + 8;
+const MODE_AT: usize = Controller::SIZE + LENGTH_SIZE;
+
+// The bytes of a state.
+const STATE_SIZE: usize = Controller::SIZE + TAIL_SIZE;
 
 // The number of four bytes, high byte first.
 fn quad_at(s: &[u8], at: usize) -> usize
-    requires { ⌜ at ≤ 100000 ⌝ }
+    requires { ⌜ at ≤ entryBound ⌝ }
     ensures { λ r. ⌜ (r ≡ quadAt (now (s .entry)) at) × (r < 4294967296) ⌝ }
 {
     octets::u16_at(s, at) * 65536 + octets::u16_at(s, at + 2)
@@ -23,7 +30,7 @@ fn quad_at(s: &[u8], at: usize) -> usize
 
 // The number of eight bytes, as two halves.
 fn eight_at(s: &[u8], at: usize) -> usize
-    requires { ⌜ at ≤ 50000 ⌝ }
+    requires { ⌜ at ≤ 800000 ⌝ }
     ensures { λ r. ⌜ r ≡ eightAt (now (s .entry)) at ⌝ }
 {
     quad_at(s, at) * 4294967296 + quad_at(s, at + 4)
@@ -38,8 +45,8 @@ fn octet(n: usize, unit: usize) -> u8
 }
 
 // The length's eight bytes and the mode.
-fn tail_of(n: usize, mode: u8) -> [u8; 9]
-    ensures { λ r. ⌜ r ≡ tailOf n mode ⌝ }
+fn tail_of(n: usize, mode: u8) -> [u8; TAIL_SIZE]
+    ensures { λ r. ⌜ r ≡ stateTail n mode ⌝ }
 {
     [
         octet(n, 72057594037927936),
@@ -56,17 +63,24 @@ fn tail_of(n: usize, mode: u8) -> [u8; 9]
 
 // The same into the front of a slice.
 fn put_tail(n: usize, mode: u8, dst: &mut [u8])
-    requires { ⌜ 9 ≤ length (now dst) ⌝ }
-    ensures { λ _. ⌜ now (dst .exit) ≡ tailOf n mode ++ drop 9 (now (dst .entry)) ⌝ }
+    requires { ⌜ stateTailSize ≤ length (now dst) ⌝ }
+    ensures { λ _. ⌜ now (dst .exit) ≡ stateTail n mode ++ drop stateTailSize (now (dst .entry)) ⌝ }
 {
     let tail = tail_of(n, mode);
-    filling::put(&tail, 9, dst);
+    filling::put(&tail, TAIL_SIZE, dst);
 }
 
-// The state that the bytes are.
+// A slice has as many bytes as a state.
+pub fn has_state_size(state: &[u8]) -> bool
+    ensures { λ r. ⌜ r ≡ hasStateSize (now (state .entry)) ⌝ }
+{
+    state.len() == STATE_SIZE
+}
+
+// The state that a lent slice holds.
 pub fn unpack(state: &[u8]) -> Controller
-    requires { ⌜ stateSize ≤ length (now state) ⌝ }
-    ensures { λ r. ⌜ r ≡ stateOf (now (state .entry)) ⌝ }
+    requires { ⌜ length (now state) ≡ stateSize ⌝ }
+    ensures { λ r. ⌜ r ≡ heldIn (now (state .entry)) ⌝ }
 {
     let mut bytes = [0u8; Controller::SIZE];
     filling::put(state, Controller::SIZE, &mut bytes);
@@ -75,11 +89,14 @@ pub fn unpack(state: &[u8]) -> Controller
     Controller { bytes, len, mode }
 }
 
-// A state into the front of a slice; the rest stays.
-pub fn pack(c: Controller, state: &mut [u8])
-    requires { ⌜ stateSize ≤ length (now state) ⌝ }
-    ensures { λ _. ⌜ now (state .exit) ≡ overState c (now (state .entry)) ⌝ }
+// The next state's bytes into a lent state, where the call's number says that it succeeds; a refusal leaves the bytes as they were.
+pub fn pack(number: u8, c: Controller, state: &mut [u8])
+    requires { ⌜ length (now state) ≡ stateSize ⌝ }
+    ensures { λ _. ⌜ now (state .exit) ≡ bytesAfter number c (now (state .entry)) ⌝ }
 {
+    if number != 0 {
+        return;
+    }
     filling::put(&c.bytes, Controller::SIZE, state);
     put_tail(c.len, c.mode, &mut state[Controller::SIZE..]);
 }

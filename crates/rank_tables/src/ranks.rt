@@ -2,14 +2,23 @@
 ghost use mathlib.Core.Path.{_≡_};
 ghost use Prim.Native.Nat.{_≤_, _<_};
 ghost use lib.ListN.{length};
-ghost use Rattle.certificate.specs.Layout.{modesOf, entriesOf, cellsOf, entriesStart};
+ghost use Rattle.certificate.specs.Layout.{maxCells, maxEntries, maxModes, modesOf, entriesOf, cellsOf, entriesStart};
 ghost use Rattle.rank_tables.specs.Index.{IsIndex, CellsAscend, rankAt, RanksOf};
+ghost use Rattle.octets.specs.Bounds.{startBound};
 use crate::lookup;
+use certificate::limits;
 use entry_records::entries;
 
 // The rank of the entry of cell d and mode m, raised by one; 0 where there is none.
-fn rank_at(s: &[u8], start: usize, entries: usize, index: &[u16; 4097], d: usize, m: usize) -> u32
-    requires { ⌜ (start ≤ 100000) × (start ≡ entriesStart (now s)) × (entries ≤ 4096) × (entries ≡ entriesOf (now s)) × CellsAscend (now s) × IsIndex (now s) (now index) × (d < 4096) × (d < cellsOf (now s)) ⌝ }
+fn rank_at(
+    s: &[u8],
+    start: usize,
+    entries: usize,
+    index: &[u16; limits::MAX_CELLS + 1],
+    d: usize,
+    m: usize,
+) -> u32
+    requires { ⌜ (start ≤ startBound) × (start ≡ entriesStart (now s)) × (entries ≤ maxEntries) × (entries ≡ entriesOf (now s)) × CellsAscend (now s) × IsIndex (now s) (now index) × (d < maxCells) × (d < cellsOf (now s)) ⌝ }
     ensures { λ r. ⌜ r ≡ rankAt (now (s .entry)) d m ⌝ }
 {
     let e = lookup::lookup(s, start, entries, index, d, m);
@@ -26,10 +35,10 @@ pub fn fill_ranks(
     entries: usize,
     modes: usize,
     cells: usize,
-    index: &[u16; 4097],
+    index: &[u16; limits::MAX_CELLS + 1],
     ranks: &mut [u32],
 )
-    requires { ⌜ (start ≤ 100000) × (start ≡ entriesStart (now s)) × (entries ≤ 4096) × (entries ≡ entriesOf (now s)) × CellsAscend (now s) × IsIndex (now s) (now index) × (modes ≤ 8) × (modes ≡ modesOf (now s)) × (1 ≤ cells) × (cells ≤ 4096) × (cells ≡ cellsOf (now s)) × (length (now ranks) ≡ 32768) ⌝ }
+    requires { ⌜ (start ≤ startBound) × (start ≡ entriesStart (now s)) × (entries ≤ maxEntries) × (entries ≡ entriesOf (now s)) × CellsAscend (now s) × IsIndex (now s) (now index) × (modes ≤ maxModes) × (modes ≡ modesOf (now s)) × (1 ≤ cells) × (cells ≤ maxCells) × (cells ≡ cellsOf (now s)) × (length (now ranks) ≡ 32768) ⌝ }
     ensures { λ _. ⌜ RanksOf (now (s .entry)) (now (ranks .exit)) ⌝ }
 {
     for k in 0..modes * cells {

@@ -1,18 +1,26 @@
 -- The stages of reading, put together: what a refusal answers, and how the stages follow one another. Assumes nothing.
 use Prim.Native.Nat.{ℕ, _+_, _*_, _≤_, _<_}
+use mathlib.Core.Bool.{Bool, true, false}
 use mathlib.Core.List.{List}
 use mathlib.Core.Path.{_≡_, refl, sym, ap, _∙_}
 use native.Mathlib.Omega.{arith}
+use borrow.Author.Tests.{ltb-true, ltb-false}
+use lib.ListN.{getD}
+use lib.Dec.{ltb}
 use Rattle.certificate.specs.declared.Report.{Report}
 use Rattle.reading.specs.declared.Reading.{Reading}
+use Rattle.reading.specs.declared.Starts.{Starts}
+use Rattle.certificate.specs.Loops.{pick}
 use Rattle.certificate.specs.Checks.{orElse}
-use Rattle.certificate.specs.Layout.{turnSize, arrivalSize, linksOf, turnsOf, signalsOf, modesOf, boxesOf, entriesOf, linkAt, turnsStart, signalsStart, gridAt, arrivalsStart, entriesStart}
+use Rattle.certificate.specs.Layout.{maxLinks, arrivalSize, linksOf, turnsOf, signalsOf, modesOf, boxesOf, entriesOf, gridAt, arrivalsStart, entriesStart}
 use Rattle.certificate.specs.Records.{headerFault, endFault}
 use Rattle.certificate.specs.Reading.{linksFault, turnsFault, signalsFault, gridsFault, readingOf}
 use Rattle.certificate.specs.Facts.{HeaderFacts}
 use Rattle.box_records.specs.GridRecords.{GridsLaid}
-use Rattle.reading.specs.Laid.{networkFault, tailFault, backFault, LaidOut, noLayout, ReadAs}
+use Rattle.reading.specs.ReadingResults.{StartsOf, gridPlace, networkFault, tailFault, backFault, LaidOut, noLayout, ReadAs}
+use Rattle.octets.specs.Tables.{tableOf}
 use Rattle.octets.proofs.Cases.{in-groups}
+use Rattle.octets.proofs.FilledTables.{table-is}
 use Rattle.box_records.proofs.Products.{box-offset}
 use Rattle.certificate.proofs.Offsets.{grid-end}
 use Rattle.certificate.proofs.Records.{header-says}
@@ -39,9 +47,17 @@ module _ (s : List ℕ) where
   pub header-facts : {f : Report} → f ≡ headerFault s → f .number ≡ 0 → HeaderFacts s
   header-facts e z = header-says s .0 (rw e at z) .1
 
+  -- the places of the grid records, as a table
+  places-are : {places : List ℕ} {stop cells : ℕ} → GridsLaid s (linksOf s) places stop cells → places ≡ tableOf maxLinks (gridPlace s)
+  places-are {places} L = table-is maxLinks (gridPlace s) places (L .sized) (λ l _. go l (ltb l (linksOf s)) refl)
+    where
+      go : (l : ℕ) (b : Bool) → ltb l (linksOf s) ≡ b → getD places l 0 ≡ pick b (gridAt s l) 0
+      go l true e = L .place l (ltb-true _ _ e)
+      go l false e = L .no-place l (ltb-false _ _ e)
+
   -- the layout, from the counts of HD and from the grid records
-  pub laid-out : {places : List ℕ} {stop cells links turns signals modes boxes entries first-entry : ℕ}
-      → HeaderFacts s → GridsLaid s (linksOf s) places stop cells
+  pub laid-out : {starts : Starts} {places : List ℕ} {stop cells links turns signals modes boxes entries first-entry : ℕ}
+      → HeaderFacts s → StartsOf s starts → GridsLaid s (linksOf s) places stop cells
       → links ≡ linksOf s → turns ≡ turnsOf s → signals ≡ signalsOf s → modes ≡ modesOf s → boxes ≡ boxesOf s → entries ≡ entriesOf s
       → first-entry ≡ stop + arrivalSize links * boxes
       → LaidOut s
@@ -52,18 +68,19 @@ module _ (s : List ℕ) where
         modes = modes;
         boxes = boxes;
         entries = entries;
-        «turns_start» = linkAt links;
-        «signals_start» = linkAt links + turnSize * turns;
+        «turns_start» = starts .turns;
+        «signals_start» = starts .signals;
         grids = places;
         «arrivals_start» = stop;
         «entries_start» = first-entry;
         cells = cells;
       })
-  unfolding turnsStart signalsStart arrivalsStart entriesStart
-  laid-out {places} {stop} {cells} {links} {turns} {signals} {modes} {boxes} {entries} H L el et es em eb ee ef =
+  unfolding arrivalsStart entriesStart
+  laid-out {starts} {places} {stop} {cells} {links} {turns} {signals} {modes} {boxes} {entries} H S L el et es em eb ee ef =
       let few : links ≤ 8 = omega (arith, H .links-most) in
       let far : arrivalSize links * boxes ≤ 8704 = box-offset links boxes few (omega (arith, H .boxes-most)) in
       record {
+        is = rw (ef, el, et, es, em, eb, ee, S .turns-is, S .signals-is, L .end-is, L .cells-are, places-are L);
         links-are = el;
         links-least = omega (arith, H .links-least);
         links-most = few;
@@ -81,10 +98,10 @@ module _ (s : List ℕ) where
         entries-are = ee;
         entries-least = omega (arith, H .entries-least);
         entries-most = omega (arith, H .entries-most);
-        turns-start-is = rw el;
-        turns-start-most = omega arith;
-        signals-start-is = rw (el, et);
-        signals-start-most = omega (arith, H .turns-most);
+        turns-start-is = S .turns-is;
+        turns-start-most = omega (arith, S .turns-most);
+        signals-start-is = S .signals-is;
+        signals-start-most = omega (arith, S .signals-most);
         grid-is = L .place;
         grid-most = λ l lt. omega (arith, grid-end s l lt, L .end-is, L .end-most);
         arrivals-start-is = L .end-is;

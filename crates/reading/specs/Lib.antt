@@ -1,2 +1,2 @@
 -- What reading answers.
-pub mod Laid
+pub mod ReadingResults

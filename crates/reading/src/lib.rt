@@ -1,15 +1,13 @@
 // A whole certificate: every record in its turn, and where the records stand.
 ghost use mathlib.Core.Path.{_≡_};
 ghost use Prim.Native.Nat.{_≤_};
-ghost use Rattle.certificate.specs.Layout.{linksOf, gridStart, endAt};
+ghost use Rattle.certificate.specs.Layout.{linksOf, endAt};
 ghost use Rattle.certificate.specs.Records.{endFault};
 ghost use Rattle.certificate.specs.Reading.{readingOf};
 ghost use Rattle.certificate.specs.Facts.{HeaderFacts};
 ghost use Rattle.box_records.specs.GridRecords.{GridsLaid};
-ghost use Rattle.reading.specs.Laid.{LaidOut, ReadAs, networkFault, tailFault, backFault, noLayout};
-
-mod header;
-
+ghost use Rattle.reading.specs.ReadingResults.{StartsOf, LaidOut, ReadAs, networkFault, tailFault, backFault, noLayout};
+ghost use Rattle.octets.specs.Bounds.{entryBound};
 use box_records::arrivals;
 use box_records::grids;
 use certificate::Report;
@@ -19,7 +17,7 @@ use road_records::links;
 use road_records::signals;
 use turn_records::turns;
 
-// What a readable certificate holds how many of, and where its records stand.
+// What a readable certificate holds how many of, and where its records stand: in `grids` 0 for a link that there is not.
 pub struct Layout {
     pub links: usize,
     pub turns: usize,
@@ -43,10 +41,10 @@ pub struct Reading {
 
 // ZZ: nothing follows.
 fn check_end(s: &[u8], at: usize) -> Report
-    requires { ⌜ (at ≤ 900000) × (at ≡ endAt (now s)) ⌝ }
+    requires { ⌜ (at ≤ entryBound) × (at ≡ endAt (now s)) ⌝ }
     ensures { λ r. ⌜ r ≡ endFault (now (s .entry)) ⌝ }
 {
-    let opening = octets::check_opened(s, at, 90, 90, limits::END_SIZE);
+    let opening = octets::check_opened(s, at, octets::marked_as(s, at, 90, 90), limits::END_SIZE);
     let after = at + limits::END_SIZE;
     octets::record_result(opening, s.len() <= after, 2, after)
 }
@@ -71,62 +69,60 @@ pub fn refused(report: Report) -> Reading
     Reading { report, layout }
 }
 
+// Where the records of turns, signals and grids begin.
+struct Starts {
+    turns: usize,
+    signals: usize,
+    grids: usize,
+}
+
+fn starts_of(s: &[u8]) -> Starts
+    ensures { λ r. ⌜ StartsOf (now (s .entry)) r ⌝ }
+{
+    let turns = links::link_at(s, header_record::links_of(s));
+    let signals = turns::turn_at(turns, header_record::turns_of(s));
+    let grids = signals::signal_at(signals, header_record::signals_of(s));
+    Starts {
+        turns,
+        signals,
+        grids,
+    }
+}
+
 // LK, TN and SG.
-fn check_network(s: &[u8]) -> Report
-    requires { ⌜ HeaderFacts (now s) ⌝ }
+fn check_network(s: &[u8], starts: Starts) -> Report
+    requires { ⌜ HeaderFacts (now s) × StartsOf (now s) starts ⌝ }
     ensures { λ r. ⌜ r ≡ networkFault (now (s .entry)) ⌝ }
 {
-    let links = octets::byte_at(s, 2);
-    let turns = octets::byte_at(s, 3);
+    let links = header_record::links_of(s);
     let f = links::check_links(s, links);
     if f.number != 0 {
         return f;
     }
-    let start = limits::HEADER_SIZE + limits::LINK_SIZE * links;
-    let g = turns::check_turns(s, start, links, turns);
+    let g = turns::check_turns(s, starts.turns, links, header_record::turns_of(s));
     if g.number != 0 {
         return g;
     }
-    signals::check_signals(
-        s,
-        start + limits::TURN_SIZE * turns,
-        links,
-        octets::byte_at(s, 4),
-    )
-}
-
-// Where the first GR stands.
-fn grids_start(s: &[u8]) -> usize
-    ensures { λ r. ⌜ (r ≡ gridStart (now (s .entry))) × (r ≤ 50000) ⌝ }
-{
-    let links = octets::byte_at(s, 2);
-    let turns = octets::byte_at(s, 3);
-    let signals = octets::byte_at(s, 4);
-    limits::HEADER_SIZE
-        + limits::LINK_SIZE * links
-        + limits::TURN_SIZE * turns
-        + limits::SIGNAL_SIZE * signals
+    signals::check_signals(s, starts.signals, links, header_record::signals_of(s))
 }
 
 // The layout of a certificate whose records up to the last GR are as they must be.
-fn lay_out(s: &[u8], found: grids::Grids) -> Layout
-    requires { ⌜ HeaderFacts (now s) × GridsLaid (now s) (linksOf (now s)) (found .places) (found .«end») (found .cells) ⌝ }
+fn lay_out(s: &[u8], starts: Starts, found: grids::Grids) -> Layout
+    requires { ⌜ HeaderFacts (now s) × StartsOf (now s) starts × GridsLaid (now s) (linksOf (now s)) (found .places) (found .«end») (found .cells) ⌝ }
     ensures { λ r. ⌜ LaidOut (now (s .entry)) r ⌝ }
 {
-    let links = octets::byte_at(s, 2);
-    let turns = octets::byte_at(s, 3);
-    let boxes = octets::byte_at(s, 6);
-    let turns_start = limits::HEADER_SIZE + limits::LINK_SIZE * links;
+    let links = header_record::links_of(s);
+    let boxes = header_record::boxes_of(s);
     let places = found.places;
     Layout {
         links,
-        turns,
-        signals: octets::byte_at(s, 4),
-        modes: octets::byte_at(s, 5),
+        turns: header_record::turns_of(s),
+        signals: header_record::signals_of(s),
+        modes: header_record::modes_of(s),
         boxes,
-        entries: octets::u16_at(s, 7),
-        turns_start,
-        signals_start: turns_start + limits::TURN_SIZE * turns,
+        entries: header_record::entries_of(s),
+        turns_start: starts.turns,
+        signals_start: starts.signals,
         grids: places,
         arrivals_start: found.end,
         entries_start: arrivals::arrival_at(found.end, links, boxes),
@@ -152,23 +148,20 @@ fn check_tail(s: &[u8], layout: Layout) -> Report
     if g.number != 0 {
         return g;
     }
-    check_end(
-        s,
-        layout.entries_start + limits::ENTRY_SIZE * layout.entries,
-    )
+    check_end(s, entries::entry_at(layout.entries_start, layout.entries))
 }
 
 // From GR on.
-fn read_back(s: &[u8]) -> Reading
-    requires { ⌜ HeaderFacts (now s) ⌝ }
+fn read_back(s: &[u8], starts: Starts) -> Reading
+    requires { ⌜ HeaderFacts (now s) × StartsOf (now s) starts ⌝ }
     ensures { λ r. ⌜ ReadAs (now (s .entry)) (backFault (now (s .entry))) r ⌝ }
 {
-    let found = grids::check_grids(s, grids_start(s), octets::byte_at(s, 2));
+    let found = grids::check_grids(s, starts.grids, header_record::links_of(s));
     let f = found.report;
     if f.number != 0 {
         return refused(f);
     }
-    let layout = lay_out(s, found);
+    let layout = lay_out(s, starts, found);
     let g = check_tail(s, layout);
     if g.number != 0 {
         return refused(g);
@@ -180,13 +173,14 @@ fn read_back(s: &[u8]) -> Reading
 pub fn read(s: &[u8]) -> Reading
     ensures { λ r. ⌜ ReadAs (now (s .entry)) (readingOf (now (s .entry))) r ⌝ }
 {
-    let f = header::check_header(s);
+    let f = header_record::check_header(s);
     if f.number != 0 {
         return refused(f);
     }
-    let g = check_network(s);
+    let starts = starts_of(s);
+    let g = check_network(s, starts);
     if g.number != 0 {
         return refused(g);
     }
-    read_back(s)
+    read_back(s, starts)
 }

@@ -1,7 +1,9 @@
--- A queue in a cell is at most the upper edge, and queues stay in their cell over a multiple of the scale. Assumes nothing.
+-- A queue in a cell is at most the upper edge, and equal fractions lie in the same cell. Assumes nothing.
 use Prim.Native.Nat.{ℕ, _*_, _≤_, _<_}
 use mathlib.Core.List.{List}
-use native.Mathlib.Nat.{le-trans, mul-right-comm, mul-le-mul-left, mul-le-mul-right, mul-lt-mul-of-pos-right}
+use mathlib.Core.Path.{_≡_}
+use native.Mathlib.Nat.{le-trans, mul-le-mul-left, mul-le-mul-right, mul-lt-mul-of-pos-right, le-of-mul-le-mul-right, lt-of-mul-lt-mul-right}
+use native.Mathlib.Omega.{arith}
 use Rattle.certificate.specs.Layout.{linksOf}
 use Rattle.grid.specs.Intervals.{InInterval}
 use Rattle.grid.specs.Cells.{upperOf, InCell}
@@ -12,15 +14,26 @@ pub below-bound : {s : List ℕ} {c D : ℕ} {x : ℕ → ℕ} → InCell s c D 
     → (l : ℕ) → l < linksOf s → x l ≤ D * bound l
 below-bound {D} h bound edges l lt = le-trans (at-most-upper _ _ _ _ _ (h .holds l lt)) (mul-le-mul-left D (edges l lt))
 
--- queues and scale multiplied by the same positive number
-pub in-cell-times : {s : List ℕ} {c D : ℕ} {x : ℕ → ℕ} (k : ℕ) → 1 ≤ k → InCell s c D x → InCell s c (D * k) (λ l. x l * k)
-in-cell-times {s} {c} {D} {x} k pos h = record { exists = h .exists; holds = λ l lt. times (h .holds l lt) }
+-- x over D and y over E, equal by cross products: a whole number's bound goes over from one to the other
+module _ (D E x y n : ℕ) (d : 1 ≤ D) (equal : y * D ≡ x * E) where
+  least : D * n ≤ x → E * n ≤ y
+  least h = let over : E * n * D ≤ y * D = omega (arith, mul-le-mul-right E h) in le-of-mul-le-mul-right over d
+
+  most : x ≤ D * n → y ≤ E * n
+  most h = let over : y * D ≤ E * n * D = omega (arith, mul-le-mul-right E h) in le-of-mul-le-mul-right over d
+
+  below : 1 ≤ E → x < D * n → y < E * n
+  below e h = let over : y * D < E * n * D = omega (arith, mul-lt-mul-of-pos-right h e) in lt-of-mul-lt-mul-right D over
+
+-- so equal queues lie in the same cell
+pub same-cell : (s : List ℕ) {c D E : ℕ} {x y : ℕ → ℕ} → 1 ≤ D → 1 ≤ E → ((l : ℕ) → l < linksOf s → y l * D ≡ x l * E) → InCell s c D x → InCell s c E y
+same-cell s {c} {D} {E} {x} {y} d e equal h = record { exists = h .exists; holds = λ l lt. same (equal l lt) (h .holds l lt) }
   where
-    times : {l i q : ℕ} → InInterval s l i D q → InInterval s l i (D * k) (q * k)
-    times v =
+    same : {l i p q : ℕ} → q * D ≡ p * E → InInterval s l i D p → InInterval s l i E q
+    same {p} {q} eq v =
         record {
           exists = v .exists;
-          lower = rw mul-right-comm (mul-le-mul-right k (v .lower));
-          upper = λ inner. rw mul-right-comm (mul-lt-mul-of-pos-right (v .upper inner) pos);
-          cap = rw mul-right-comm (mul-le-mul-right k (v .cap));
+          lower = least D E p q _ d eq (v .lower);
+          upper = λ inner. below D E p q _ d eq e (v .upper inner);
+          cap = most D E p q _ d eq (v .cap);
         }

@@ -9,7 +9,7 @@ use lib.ListN.{length}
 use Rattle.certificate.specs.Layout.{entriesOf, rankOf}
 use Rattle.runs.specs.Runs.{RunState, Step, InForce, stepped, after, momentOf, GoalMet, ProperSteps}
 use Rattle.runs.specs.Claim.{greatestTo, greatestRank, Kept}
-use Rattle.runs.proofs.Steps.{Follower, Steady}
+use Rattle.runs.proofs.Steps.{Follower, Steady, scale-stays}
 
 -- each number is at most the greatest
 at-most-greatest : (n : ℕ) (f : ℕ → ℕ) (i : ℕ) → i < n → f i ≤ greatestTo n f
@@ -20,6 +20,14 @@ at-most-greatest (suc n) f i lt =
     (λ (same : i ≡ n). rw same (omega arith))
     (λ (below : i < n). omega (arith, at-most-greatest n f i below))
     (eq-or-lt-of-le (omega arith))
+
+-- at every moment the scale is at least 1
+pub scale-at : (s : List ℕ) (r : RunState) (steps : List Step) → 1 ≤ r .scale → ProperSteps s steps → (k : ℕ) → 1 ≤ momentOf s r steps k .scale
+unfolding after
+scale-at s r steps pos P zero = pos
+scale-at s r [] pos P (suc k) = pos
+scale-at s r (p ∷ ps) pos P (suc k) =
+    scale-at s (stepped s r p) ps (scale-stays s p (P zero (omega arith)) r pos) (λ i lt. P (suc i) (omega arith)) k
 
 -- a moment at which the goal is met, from moment `first` to moment `last`
 record Visit (s : List ℕ) (r : RunState) (steps : List Step) (first last : ℕ) : Type 0 where

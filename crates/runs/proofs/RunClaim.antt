@@ -1,10 +1,13 @@
--- Demand 3: the run claim holds of every certificate whose verdict is 0. Assumes nothing.
+-- Demand 3: the run claim holds of every certificate whose verdict is 0; and the scale at every moment. Assumes nothing.
 use Rattle.certificate.specs.Layout.{linksOf}
 use Rattle.judging.proofs.Verdicts.{accepted-is-plain}
-use Rattle.runs.specs.Laws.{RunTheorem}
+use Rattle.runs.specs.Laws.{RunTheorem, MomentScale}
 use Rattle.runs.proofs.Fractions.{scale-least}
 use Rattle.runs.proofs.Steps.{steady}
-use Rattle.runs.proofs.Moments.{kept}
+use Rattle.runs.proofs.Moments.{scale-at, kept}
+
+pub moment-scale : MomentScale
+moment-scale s mode queues steps Q P k = scale-at s _ steps (scale-least queues (linksOf s) (Q .count) (Q .scales)) P k
 
 pub run-theorem : RunTheorem
 run-theorem s accepted mode queues steps e Q P F =

@@ -1,7 +1,7 @@
 -- What an entry in force gives at its moment, and what a step of a run keeps, where all entries hold. Assumes nothing.
 use Prim.Native.Nat.{ℕ, _*_, _≤_, _<_}
 use mathlib.Core.List.{List}
-use mathlib.Core.Bool.{true}
+use mathlib.Core.Bool.{Bool, true, false, cond}
 use mathlib.Core.Path.{_≡_}
 use native.Mathlib.Nat.{mul-assoc, mul-comm, mul-pos, mul-le-mul-left}
 use native.Mathlib.Omega.{arith}
@@ -10,10 +10,11 @@ use lib.ListN.{length}
 use Rattle.certificate.specs.Layout.{linksOf, capOf, safeOf, goalOf, entriesOf, cellOf, signalOf, rankOf}
 use Rattle.certificate.proofs.Tests.{both-and}
 use Rattle.certificate.proofs.Loops.{each-every}
-use Rattle.network.specs.Network.{networkOf, limitOf}
+use Rattle.network.specs.Network.{networkOf, isGreen, entryLimit}
 use Rattle.network.specs.Flow.{next}
 use Rattle.network.specs.Laws.{Screened}
 use Rattle.network.proofs.Fits.{next-fits}
+use Rattle.network.proofs.Screening.{entry-sound}
 use Rattle.grid.specs.Cells.{InCell, cellAt}
 use Rattle.grid.specs.Laws.{InBox}
 use Rattle.grid.proofs.Intervals.{one-cell}
@@ -22,7 +23,7 @@ use Rattle.judging.specs.Conditions.{EntryHolds}
 use Rattle.runs.specs.Fractions.{scaleOf}
 use Rattle.runs.specs.Runs.{RunState, Step, InForce, entryIn, hasEntry, commonScale, queuesOver, arrivalsOver, moved, stepped, GoalMet, Safe, ProperStep}
 use Rattle.runs.proofs.Fractions.{scale-least, keeps-low, keeps-high}
-use Rattle.runs.proofs.Cells.{below-bound, in-cell-times}
+use Rattle.runs.proofs.Cells.{below-bound, same-cell}
 use Rattle.runs.proofs.Lookup.{finds-entry}
 
 -- an entry in force at state r, whose rank is lower than that of entry e where that is above 0
@@ -52,27 +53,40 @@ module _ (s : List ℕ) (p : Step) (P : ProperStep s p) where
         rw (mul-assoc, mul-comm (scaleOf (p .arrivals))) (mul-le-mul-left (r .scale) high),
       )
 
+  -- the scale stays at least 1, whether an entry is in force or not
+  pub scale-stays : (r : RunState) → 1 ≤ r .scale → 1 ≤ stepped s r p .scale
+  unfolding stepped moved
+  scale-stays r pos = go (hasEntry s r)
+    where
+      over : 1 ≤ commonScale r p
+      over = mul-pos pos arrivals-scale
+
+      go : (b : Bool) → 1 ≤ cond b (moved s r p (entryIn s r)) r .scale
+      go true = omega (arith, over)
+      go false = pos
+
+-- where an entry is in force the lookup finds it, and a step goes by it
+module _ (s : List ℕ) (S : Screened s) (r : RunState) (e : ℕ) (F : InForce s r e) (pos : 1 ≤ r .scale) where
+  fits : (l : ℕ) → l < linksOf s → r .queue l ≤ r .scale * capOf s l
+  fits l lt = F .cell .holds l lt .cap
+
+  pub looks-up : entryIn s r ≡ e
+  looks-up =
+      let same = one-cell s (S .readable) (r .scale) (r .queue) pos fits .1 (cellOf s e) (F .cell) in
+      finds-entry s (S .readable) _ _ e (F .exists) same (F .mode)
+
+  has-entry : hasEntry s r ≡ true
+  unfolding hasEntry
+  has-entry =
+      let exists : entryIn s r < entriesOf s = rw looks-up (F .exists) in
+      both-and _ _ (each-every (linksOf s) _ (λ l lt. le-leb _ _ (fits l lt))) (lt-ltb _ _ exists)
+
+  pub moves : (p : Step) → stepped s r p ≡ moved s r p e
+  unfolding stepped
+  moves p = rw (has-entry, looks-up)
+
 module _ (s : List ℕ) (S : Screened s) (holds : (e : ℕ) → e < entriesOf s → EntryHolds s e) where
   module _ (r : RunState) (e : ℕ) (p : Step) (F : InForce s r e) (pos : 1 ≤ r .scale) where
-    fits : (l : ℕ) → l < linksOf s → r .queue l ≤ r .scale * capOf s l
-    fits l lt = F .cell .holds l lt .cap
-
-    -- the lookup finds the entry in force, so the step goes by it
-    looks-up : entryIn s r ≡ e
-    looks-up =
-        let same = one-cell s (S .readable) (r .scale) (r .queue) pos fits .1 (cellOf s e) (F .cell) in
-        finds-entry s (S .readable) _ _ e (F .exists) same (F .mode)
-
-    has-entry : hasEntry s r ≡ true
-    unfolding hasEntry
-    has-entry =
-        let exists : entryIn s r < entriesOf s = rw looks-up (F .exists) in
-        both-and _ _ (each-every (linksOf s) _ (λ l lt. le-leb _ _ (fits l lt))) (lt-ltb _ _ exists)
-
-    moves : stepped s r p ≡ moved s r p e
-    unfolding stepped
-    moves = rw (has-entry, looks-up)
-
     -- the next queues lie in a cell that is a successor, so it is listed for the next mode, and lower
     follower : ProperStep s p → Follower s e (stepped s r p)
     unfolding moved
@@ -80,16 +94,16 @@ module _ (s : List ℕ) (S : Screened s) (holds : (e : ℕ) → e < entriesOf s 
         let D : ℕ = commonScale r p in
         let over : 1 ≤ D = mul-pos pos (arrivals-scale s p P) in
         let scale : 1 ≤ 10000 * D = omega arith in
-        let queue : ℕ → ℕ = next (networkOf s) (limitOf s (signalOf s e)) D (queuesOver r p) (arrivalsOver r p) in
+        let queue : ℕ → ℕ = next (networkOf s) (entryLimit s e) D (queuesOver r p) (arrivalsOver r p) in
         let below : (l : ℕ) → l < linksOf s → queue l ≤ 10000 * D * capOf s l = λ l lt. rw mul-assoc (next-fits _ _ _ _ _ l) in
         let cell : InCell s (cellAt s (10000 * D) queue) (10000 * D) queue = one-cell s (S .readable) _ queue scale below .0 in
         let meets =
-        steps-to-successor s S (signalOf s e) (p .box) (cellOf s e) _ D (queuesOver r p) (arrivalsOver r p)
-        (S .readable .entry e (F .exists) .signal) (P .box) over (in-cell-times _ (arrivals-scale s p P) (F .cell)) (in-box s p P r) cell in
+        steps-to-successor s (S .readable) (isGreen s (signalOf s e)) (entryLimit s e) (entry-sound s S e (F .exists)) (p .box) (cellOf s e) _ D (queuesOver r p) (arrivalsOver r p)
+        (P .box) over (same-cell s pos over (λ l _. omega arith) (F .cell)) (in-box s p P r) cell in
         let successor = holds e (F .exists) .successors (p .box) _ (P .box) (cell .exists) meets in
         let f = successor .0 .0 in
         let lists = successor .0 .1 in
-        rw moves (record {
+        rw (moves s S r e F pos p) (record {
           scale = scale;
           entry = f;
           in-force = record { exists = lists .exists; cell = rw (lists .cell) cell; mode = lists .mode };

@@ -15,17 +15,21 @@ greatestTo (suc n) f = max (greatestTo n f) (f n)
 abbrev pub greatestRank : List ℕ → ℕ
 greatestRank s = greatestTo (entriesOf s) (rankOf s)
 
--- what the run from r by a list of steps keeps, where e is the first entry. A bound past the list's end claims nothing.
-pub record Kept (s : List ℕ) (r : RunState) (steps : List Step) (e : ℕ) : Type 0 where
+-- what is kept at the moments of a run, the last of them n, where e is the first entry. A bound past moment n claims nothing.
+pub record KeptAlong (s : List ℕ) (moment : ℕ → RunState) (n e : ℕ) : Type 0 where
   -- at every moment some entry is in force: the queues' cell is listed for the mode
-  pub listed : (k : ℕ) → k ≤ length steps → (f : ℕ) × InForce s (momentOf s r steps k) f
+  pub listed : (k : ℕ) → k ≤ n → (f : ℕ) × InForce s (moment k) f
   -- at every moment no queue exceeds safe
-  pub safe : (k : ℕ) → k ≤ length steps → Safe s (momentOf s r steps k)
+  pub safe : (k : ℕ) → k ≤ n → Safe s (moment k)
   -- the goal is met at a moment no later than the first entry's rank
-  pub reached : rankOf s e ≤ length steps → (k : ℕ) × (k ≤ rankOf s e) × GoalMet s (momentOf s r steps k)
+  pub reached : rankOf s e ≤ n → (k : ℕ) × (k ≤ rankOf s e) × GoalMet s (moment k)
   -- after every visit it is met again, no later than greatest rank + 1 steps on
-  pub again : (k : ℕ) → k + (greatestRank s + 1) ≤ length steps → GoalMet s (momentOf s r steps k)
-      → (j : ℕ) × (k < j) × (j ≤ k + (greatestRank s + 1)) × GoalMet s (momentOf s r steps j)
+  pub again : (k : ℕ) → k + (greatestRank s + 1) ≤ n → GoalMet s (moment k)
+      → (j : ℕ) × (k < j) × (j ≤ k + (greatestRank s + 1)) × GoalMet s (moment j)
+
+-- what the run from r by a list of steps keeps
+abbrev pub Kept : List ℕ → RunState → List Step → ℕ → Type 0
+Kept s r steps e = KeptAlong s (momentOf s r steps) (length steps) e
 
 -- the run claim: every first mode, first queues whose cell is listed for it, and list of steps
 abbrev pub RunClaim : List ℕ → Type 0

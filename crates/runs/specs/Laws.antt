@@ -5,6 +5,7 @@ use mathlib.Core.Path.{_≡_}
 use lib.ListN.{length}
 use Rattle.judging.specs.Verdict.{verdictOf}
 use Rattle.runs.specs.Fractions.{Fraction, fractionAt, scaleOf, overScale}
+use Rattle.runs.specs.Runs.{Step, start, momentOf, ProperQueues, ProperSteps}
 use Rattle.runs.specs.Claim.{RunClaim}
 
 -- bringing a list of fractions to one scale keeps each, by cross products
@@ -15,6 +16,12 @@ KeepsFractions =
 -- the common scale is at least 1 where each scale is
 abbrev pub ScalePositive : Type 0
 ScalePositive = (fs : List Fraction) → ((l : ℕ) → l < length fs → 1 ≤ fractionAt fs l .den) → 1 ≤ scaleOf fs
+
+-- at every moment of a run the queues stand over a scale of at least 1
+abbrev pub MomentScale : Type 0
+MomentScale =
+    (s : List ℕ) (mode : ℕ) (queues : List Fraction) (steps : List Step) → ProperQueues s queues → ProperSteps s steps
+    → (k : ℕ) → 1 ≤ momentOf s (start queues mode) steps k .scale
 
 -- Demand 3: the run claim holds of every byte string whose verdict is 0
 abbrev pub RunTheorem : Type 0

@@ -6,8 +6,8 @@ use mathlib.Core.Path.{_≡_}
 use lib.ListN.{length, take, getD}
 use lib.Dec.{leb, ltb}
 use Rattle.certificate.specs.Loops.{every}
-use Rattle.certificate.specs.Layout.{linksOf, capOf, safeOf, goalOf, boxesOf, lowOf, highOf, entriesOf, cellOf, modeOf, signalOf, nextModeOf}
-use Rattle.network.specs.Network.{networkOf, limitOf}
+use Rattle.certificate.specs.Layout.{linksOf, capOf, safeOf, goalOf, boxesOf, lowOf, highOf, entriesOf, cellOf, modeOf, nextModeOf}
+use Rattle.network.specs.Network.{networkOf, entryLimit}
 use Rattle.network.specs.Flow.{next}
 use Rattle.grid.specs.Cells.{InCell, cellAt}
 use Rattle.judging.specs.Lookup.{entryFor}
@@ -56,7 +56,7 @@ unfoldable pub moved : List ℕ → RunState → Step → ℕ → RunState
 moved s r p e =
     record {
       scale = 10000 * commonScale r p;
-      queue = next (networkOf s) (limitOf s (signalOf s e)) (commonScale r p) (queuesOver r p) (arrivalsOver r p);
+      queue = next (networkOf s) (entryLimit s e) (commonScale r p) (queuesOver r p) (arrivalsOver r p);
       mode = nextModeOf s e;
     }
 

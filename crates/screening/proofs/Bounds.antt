@@ -6,15 +6,15 @@ use native.Mathlib.Omega.{arith}
 use lib.ListN.{length}
 use Rattle.certificate.specs.Layout.{linkAt, linkSize, turnAt, turnSize, linksOf, turnsOf, capOf, flowOf, fromOf, toOf}
 use Rattle.certificate.proofs.Offsets.{starts, link-end, turn-end}
-use Rattle.screening.specs.Roads.{Roads}
+use Rattle.screening.specs.NetworkParts.{NetworkAt}
 
-module _ {s : List ℕ} {start turns links : ℕ} (R : Roads s start turns links) where
+module _ {s : List ℕ} {start turns links : ℕ} (R : NetworkAt s start turns links) where
   -- the same with the counts as the certificate has them
-  pub roads-own : Roads s start (turnsOf s) (linksOf s)
-  roads-own = record { readable = R .readable; start-is = R .start-is; start-most = R .start-most; turns-is = refl; links-is = refl }
+  pub network-own : NetworkAt s start (turnsOf s) (linksOf s)
+  network-own = record { readable = R .readable; start-is = R .start-is; start-most = R .start-most; turns-is = refl; links-is = refl }
 
-  pub roads-links : Roads s start turns (linksOf s)
-  roads-links = record { readable = R .readable; start-is = R .start-is; start-most = R .start-most; turns-is = R .turns-is; links-is = refl }
+  pub network-links : NetworkAt s start turns (linksOf s)
+  network-links = record { readable = R .readable; start-is = R .start-is; start-most = R .start-most; turns-is = R .turns-is; links-is = refl }
 
   pub turns-most : turns ≤ 32
   turns-most = omega (arith, R .readable .header)

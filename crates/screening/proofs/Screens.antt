@@ -4,13 +4,13 @@ use mathlib.Core.List.{List}
 use mathlib.Core.Path.{_≡_, refl, _∙_}
 use Rattle.certificate.specs.declared.Report.{Report}
 use Rattle.reading.specs.declared.Reading.{Reading}
-use Rattle.reading.specs.Laid.{LaidOut, ReadAs, noLayout}
+use Rattle.reading.specs.ReadingResults.{LaidOut, ReadAs, noLayout}
 use Rattle.certificate.specs.Layout.{signalsOf, signalsStart}
 use Rattle.certificate.specs.Reading.{readingOf}
 use Rattle.certificate.proofs.Plain.{readable-of}
 use Rattle.octets.proofs.Cases.{first, second}
 use Rattle.network.specs.Conditions.{pullsFault, roomsFault, screeningOf}
-use Rattle.screening.specs.Roads.{Roads}
+use Rattle.screening.specs.NetworkParts.{NetworkAt}
 
 module _ {s : List ℕ} {found : Reading} (read : ReadAs s (readingOf s) found) where
   -- a refusal of reading is that of screening
@@ -24,8 +24,8 @@ module _ {s : List ℕ} {found : Reading} (read : ReadAs s (readingOf s) found) 
     laid = read .laid z
 
     -- the network that the conditions are tested on
-    pub screen-roads : Roads s (found .layout .«turns_start») (found .layout .turns) (found .layout .links)
-    screen-roads =
+    pub screen-network : NetworkAt s (found .layout .«turns_start») (found .layout .turns) (found .layout .links)
+    screen-network =
         record {
           readable = readable-of s (rw (read .report-is) at z);
           start-is = laid .turns-start-is;
@@ -36,9 +36,9 @@ module _ {s : List ℕ} {found : Reading} (read : ReadAs s (readingOf s) found) 
 
     -- and where its signals stand
     pub screen-signals :
-        Roads s (found .layout .«turns_start») (found .layout .turns) (found .layout .links)
+        NetworkAt s (found .layout .«turns_start») (found .layout .turns) (found .layout .links)
         × (found .layout .«signals_start» ≤ 100000) × (found .layout .«signals_start» ≡ signalsStart s) × (found .layout .signals ≡ signalsOf s)
-    screen-signals = (screen-roads, laid .signals-start-most, laid .signals-start-is, laid .signals-are)
+    screen-signals = (screen-network, laid .signals-start-most, laid .signals-start-is, laid .signals-are)
 
     -- a refusal of condition 10, of condition 11, and none
     pub pulls-answer : (g : Report) {r : Reading} → g ≡ pullsFault s → (g .number ≡ 0 → ⊥) → (r .report ≡ g) × (r .layout ≡ noLayout) → ReadAs s (screeningOf s) r

@@ -12,7 +12,7 @@ use lib.Dec.{eqb}
 use lib.ListN.{length, getD, set, replicate, length-set, getD-replicate}
 use lib.Seq.{getD-set-same, getD-set-other}
 use Rattle.certificate.specs.Loops.{pick, sumTo}
-use Rattle.screening.specs.Roads.{into}
+use Rattle.screening.specs.NetworkParts.{into}
 
 -- one term more
 pub sum-next : (n : ℕ) (f : ℕ → ℕ) → sumTo (n + 1) f ≡ sumTo n f + f n

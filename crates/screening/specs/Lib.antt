@@ -1,2 +1,2 @@
 -- What the code of conditions 10 and 11 goes by.
-pub mod Roads
+pub mod NetworkParts

@@ -1,5 +1,5 @@
 // All tests that come before 12: reading, then conditions 10 and 11.
-ghost use Rattle.reading.specs.Laid.{ReadAs};
+ghost use Rattle.reading.specs.ReadingResults.{ReadAs};
 ghost use Rattle.network.specs.Conditions.{screeningOf};
 
 mod conditions;

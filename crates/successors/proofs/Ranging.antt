@@ -157,9 +157,9 @@ every-same n p q h =
     (λ e. each-every n p (λ k lt. h k lt ∙ every-each n q e k lt))
 
 -- the successors are the cells in the ranges of the image
-pub successor-in-ranges : (s : List ℕ) → Readable s → (g b c : ℕ) (low high first last : List ℕ)
-    → Holds (linksOf s) (imageLow s g b c) low → Holds (linksOf s) (imageHigh s g b c) high
-    → RangesOf s low high first last → (d : ℕ) → isSuccessor s g b c d ≡ inRanges s first last d
+pub successor-in-ranges : (s : List ℕ) → Readable s → (limit : ℕ → ℕ) (b c : ℕ) (low high first last : List ℕ)
+    → Holds (linksOf s) (imageLow s limit b c) low → Holds (linksOf s) (imageHigh s limit b c) high
+    → RangesOf s low high first last → (d : ℕ) → isSuccessor s limit b c d ≡ inRanges s first last d
 unfolding isSuccessor inRanges
-successor-in-ranges s R g b c low high first last hl hh M d =
+successor-in-ranges s R limit b c low high first last hl hh M d =
     every-same (linksOf s) _ _ (λ l lt. rw (← hl l lt, ← hh l lt) (M .meet l _ lt (is-choice s R d l lt)))

@@ -6,7 +6,7 @@ use mathlib.Core.Path.{_≡_}
 use lib.ListN.{getD}
 use lib.Dec.{leb, ltb}
 use Rattle.certificate.specs.Loops.{pick, every}
-use Rattle.certificate.specs.Layout.{linksOf, capOf, intervalsOf, cellsOf}
+use Rattle.certificate.specs.Layout.{maxCells, linksOf, capOf, intervalsOf, cellsOf}
 use Rattle.grid.specs.Intervals.{isInner, lowerEdge, upperEdge}
 use Rattle.grid.specs.Cells.{intervalIn}
 use Rattle.grid.specs.Successors.{meets}
@@ -94,6 +94,6 @@ pub record RunsOf (s first last starts : List ℕ) (n size : ℕ) : Type 0 where
 unfoldable pub repeated : List ℕ → ℕ → ℕ → ℕ → ℕ
 repeated a size w i = getD a (i % size) 0 + i / size * w
 
--- the first n values of f are below 4096
+-- the first n values of f are below the greatest number of cells
 abbrev pub Small : ℕ → (ℕ → ℕ) → Type 0
-Small n f = (i : ℕ) → i < n → f i < 4096
+Small n f = (i : ℕ) → i < n → f i < maxCells

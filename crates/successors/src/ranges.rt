@@ -8,6 +8,7 @@ ghost use Rattle.certificate.specs.Facts.{Readable};
 ghost use Rattle.grid.specs.Intervals.{upperEdge};
 ghost use Rattle.cell_tables.specs.Tables.{EdgesOf, CountsOf};
 ghost use Rattle.successors.specs.Ranges.{IsFirst, IsLast, RangesOf};
+use certificate::limits;
 
 // The range of one link, and those of all.
 struct Range {
@@ -16,8 +17,8 @@ struct Range {
 }
 
 pub struct Ranges {
-    pub first: [usize; 8],
-    pub last: [usize; 8],
+    pub first: [usize; limits::MAX_LINKS],
+    pub last: [usize; limits::MAX_LINKS],
 }
 
 // The upper edge of interval i of link l: the lower edge of the next.
@@ -69,16 +70,16 @@ fn range_of(
 pub fn ranges_of<'a>(
     s: &[u8],
     edges: &[usize; 128],
-    counts: &[usize; 8],
+    counts: &[usize; limits::MAX_LINKS],
     links: usize,
-    low: &'a [usize; 8],
-    high: &'a [usize; 8],
+    low: &'a [usize; limits::MAX_LINKS],
+    high: &'a [usize; limits::MAX_LINKS],
 ) -> Ranges
     requires { ⌜ Readable (now s) × EdgesOf (now s) (now edges) × CountsOf (now s) (now counts) × (links ≡ linksOf (now s)) ⌝ }
     ensures { λ r. ⌜ RangesOf (now (s .entry)) (now (low .entry)) (now (high .entry)) (r .first) (r .last) ⌝ }
 {
-    let mut first = [0; 8];
-    let mut last = [0; 8];
+    let mut first = [0; limits::MAX_LINKS];
+    let mut last = [0; limits::MAX_LINKS];
     for l in 0..links {
         let r = range_of(s, edges, l, counts[l], low[l], high[l]);
         first[l] = r.first;

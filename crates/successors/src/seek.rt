@@ -2,14 +2,15 @@
 // the intervals of the range of the run link, and all those of the links after it.
 ghost use mathlib.Core.Path.{_≡_};
 ghost use Prim.Native.Nat.{_+_, _*_, _<_, _≤_};
-ghost use Rattle.certificate.specs.Layout.{linksOf, cellsOf};
+ghost use Rattle.certificate.specs.Layout.{maxCells, linksOf, cellsOf};
 ghost use Rattle.certificate.specs.Facts.{Readable};
 ghost use Rattle.cell_tables.specs.Tables.{CountsOf, WeightsOf};
 ghost use Rattle.successors.specs.Ranges.{Bounded, FullAfter, Starts, Sought, runSize};
+use certificate::limits;
 
 // The cell n intervals of that weight past base.
 fn ahead(base: usize, n: usize, weight: usize) -> usize
-    requires { ⌜ base + n * weight ≤ 4096 ⌝ }
+    requires { ⌜ base + n * weight ≤ maxCells ⌝ }
     ensures { λ r. ⌜ r ≡ base + n * weight ⌝ }
 {
     n * weight + base
@@ -18,9 +19,9 @@ fn ahead(base: usize, n: usize, weight: usize) -> usize
 // The run link: every link after it has its full range.
 pub fn run_link<'a>(
     s: &[u8],
-    counts: &[usize; 8],
-    first: &'a [usize; 8],
-    last: &'a [usize; 8],
+    counts: &[usize; limits::MAX_LINKS],
+    first: &'a [usize; limits::MAX_LINKS],
+    last: &'a [usize; limits::MAX_LINKS],
     links: usize,
 ) -> usize
     requires { ⌜ Readable (now s) × CountsOf (now s) (now counts) × (links ≡ linksOf (now s)) × Bounded (now s) (now first) (now last) ⌝ }
@@ -42,9 +43,9 @@ pub fn run_link<'a>(
 // Where the first run starts, and the number of cells where there is none: some range is empty.
 pub fn first_run<'a>(
     s: &[u8],
-    weights: &[usize; 8],
-    first: &'a [usize; 8],
-    last: &'a [usize; 8],
+    weights: &[usize; limits::MAX_LINKS],
+    first: &'a [usize; limits::MAX_LINKS],
+    last: &'a [usize; limits::MAX_LINKS],
     links: usize,
     cells: usize,
 ) -> usize
@@ -65,13 +66,13 @@ pub fn first_run<'a>(
 // How many cells a run has; 0 where the range of the run link is empty.
 pub fn run_size<'a>(
     s: &[u8],
-    weights: &[usize; 8],
-    first: &'a [usize; 8],
-    last: &'a [usize; 8],
+    weights: &[usize; limits::MAX_LINKS],
+    first: &'a [usize; limits::MAX_LINKS],
+    last: &'a [usize; limits::MAX_LINKS],
     k: usize,
 ) -> usize
     requires { ⌜ Readable (now s) × WeightsOf (now s) (now weights) × Bounded (now s) (now first) (now last) × (k < linksOf (now s)) ⌝ }
-    ensures { λ r. ⌜ (r ≡ runSize (now (s .entry)) (now (first .entry)) (now (last .entry)) k) × (r ≤ 4096) ⌝ }
+    ensures { λ r. ⌜ (r ≡ runSize (now (s .entry)) (now (first .entry)) (now (last .entry)) k) × (r ≤ maxCells) ⌝ }
 {
     if last[k] < first[k] {
         return 0;

@@ -1,11 +1,11 @@
 -- What the links that turns lead into have room for: where each link's turns begin, their supplies, and the two least of them.
-use Prim.Native.Nat.{ℕ, _*_, _-_, _≤_, _<_}
+use Prim.Native.Nat.{ℕ, _+_, _*_, _-_, _≤_, _<_}
 use mathlib.Core.List.{List}
 use mathlib.Core.Path.{_≡_}
 use lib.Dec.{leb, eqb}
 use lib.ListN.{length, getD}
 use Rattle.certificate.specs.Loops.{pick, find}
-use Rattle.certificate.specs.Layout.{linksOf, turnsOf, capOf, fromOf, toOf, pullOf}
+use Rattle.certificate.specs.Layout.{maxLinks, maxTurns, linksOf, turnsOf, capOf, fromOf, toOf, pullOf}
 use Rattle.network.specs.Flow.{leastTo}
 
 -- element k of an array
@@ -14,7 +14,7 @@ at xs k = getD xs k 0
 
 -- first has, of each link j, where its turns begin: the first turn from j or a later link. Pairs ascend, so a link's turns stand together
 pub record FirstTurns (s first : List ℕ) : Type 0 where
-  pub begins : (j : ℕ) → j < 9 → at first j ≡ find (turnsOf s) (λ t. leb j (fromOf s t))
+  pub begins : (j : ℕ) → j < maxLinks + 1 → at first j ≡ find (turnsOf s) (λ t. leb j (fromOf s t))
 
 -- no queue of x exceeds its link's cap
 pub record WithinCaps (s x : List ℕ) : Type 0 where
@@ -26,7 +26,7 @@ supplyAt s x t = pullOf s t * (capOf s (toOf s t) - x (toOf s t))
 
 -- rooms has the supply of each turn from `from` up to `end` where the queues are x
 pub record Supplies (s : List ℕ) (x : ℕ → ℕ) (from end : ℕ) (rooms : List ℕ) : Type 0 where
-  pub long : length rooms ≡ 32
+  pub long : length rooms ≡ maxTurns
   pub room : (t : ℕ) → from ≤ t → t < end → at rooms t ≡ supplyAt s x t
 
 -- least is the least of the numbers of f from `from` up to `end`, or a million, which no link sends more than; and next the least without it,

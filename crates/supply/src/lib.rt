@@ -6,8 +6,10 @@ ghost use lib.Dec.{leb, eqb};
 ghost use lib.ListN.{length};
 ghost use Rattle.certificate.specs.Loops.{pick, find};
 ghost use Rattle.certificate.specs.Layout.{linkSize, linkAt, linksOf, turnsOf, turnsStart, turnAt, turnSize, capOf, fromOf, toOf};
-ghost use Rattle.screening.specs.Roads.{Roads};
+ghost use Rattle.screening.specs.NetworkParts.{NetworkAt};
 ghost use Rattle.supply.specs.Supply.{at, FirstTurns, WithinCaps, supplyAt, Supplies, TwoLeast};
+ghost use Rattle.octets.specs.Bounds.{startBound};
+use certificate::limits;
 use octets::numbers;
 use road_records::links;
 use turn_records::turns;
@@ -32,7 +34,7 @@ pub struct Least {
 
 // The first turn from link j or a later one, and the number of turns where there is none.
 fn first_turn(s: &[u8], start: usize, turns: usize, j: usize) -> usize
-    requires { ⌜ (start ≤ 100000) × (start ≡ turnsStart (now s)) × (turns < 256) × (turns ≡ turnsOf (now s)) ⌝ }
+    requires { ⌜ (start ≤ startBound) × (start ≡ turnsStart (now s)) × (turns < 256) × (turns ≡ turnsOf (now s)) ⌝ }
     ensures { λ r. ⌜ r ≡ find (turnsOf (now (s .entry))) (λ t. leb j (fromOf (now (s .entry)) t)) ⌝ }
 {
     for t in 0..turns {
@@ -44,11 +46,11 @@ fn first_turn(s: &[u8], start: usize, turns: usize, j: usize) -> usize
 }
 
 // Where the turns of each link begin; the last element is where all end.
-pub fn first_turns(s: &[u8], start: usize, turns: usize) -> [usize; 9]
-    requires { ⌜ (start ≤ 100000) × (start ≡ turnsStart (now s)) × (turns < 256) × (turns ≡ turnsOf (now s)) ⌝ }
+pub fn first_turns(s: &[u8], start: usize, turns: usize) -> [usize; limits::MAX_LINKS + 1]
+    requires { ⌜ (start ≤ startBound) × (start ≡ turnsStart (now s)) × (turns < 256) × (turns ≡ turnsOf (now s)) ⌝ }
     ensures { λ r. ⌜ FirstTurns (now (s .entry)) r ⌝ }
 {
-    let mut first = [0usize; 9];
+    let mut first = [0usize; limits::MAX_LINKS + 1];
     for j in 0..9 {
         first[j] = first_turn(s, start, turns, j);
     }
@@ -56,8 +58,14 @@ pub fn first_turns(s: &[u8], start: usize, turns: usize) -> [usize; 9]
 }
 
 // What the to link of turn t has room for at lower and at upper queues: pull × (cap − queue), in hundredths.
-fn rooms_of(s: &[u8], start: usize, t: usize, lower: &[usize; 8], upper: &[usize; 8]) -> Rooms
-    requires { ⌜ (t < 256) × (start ≤ 100000) × (start ≡ turnsStart (now s)) × (toOf (now s) t < 8) × (at (now lower) (toOf (now s) t) ≤ capOf (now s) (toOf (now s) t)) × (at (now upper) (toOf (now s) t) ≤ capOf (now s) (toOf (now s) t)) × (turnAt (now s) t + turnSize ≤ length (now s)) × (linkAt (toOf (now s) t) + linkSize ≤ length (now s)) ⌝ }
+fn rooms_of(
+    s: &[u8],
+    start: usize,
+    t: usize,
+    lower: &[usize; limits::MAX_LINKS],
+    upper: &[usize; limits::MAX_LINKS],
+) -> Rooms
+    requires { ⌜ (t < 256) × (start ≤ startBound) × (start ≡ turnsStart (now s)) × (toOf (now s) t < 8) × (at (now lower) (toOf (now s) t) ≤ capOf (now s) (toOf (now s) t)) × (at (now upper) (toOf (now s) t) ≤ capOf (now s) (toOf (now s) t)) × (turnAt (now s) t + turnSize ≤ length (now s)) × (linkAt (toOf (now s) t) + linkSize ≤ length (now s)) ⌝ }
     ensures { λ r. ⌜ (r .lower ≡ supplyAt (now (s .entry)) (at (now (lower .entry))) t) × (r .upper ≡ supplyAt (now (s .entry)) (at (now (upper .entry))) t) ⌝ }
 {
     let to = turns::to_within(s, start, t);
@@ -96,12 +104,12 @@ pub fn supplies(
     start: usize,
     from: usize,
     end: usize,
-    lower: &[usize; 8],
-    upper: &[usize; 8],
-    by_lower: &mut [usize; 32],
-    by_upper: &mut [usize; 32],
+    lower: &[usize; limits::MAX_LINKS],
+    upper: &[usize; limits::MAX_LINKS],
+    by_lower: &mut [usize; limits::MAX_TURNS],
+    by_upper: &mut [usize; limits::MAX_TURNS],
 ) -> Least
-    requires { ⌜ Roads (now s) start (turnsOf (now s)) (linksOf (now s)) × (from ≤ end) × (end ≤ turnsOf (now s)) × WithinCaps (now s) (now lower) × WithinCaps (now s) (now upper) × (length (now «by_lower») ≡ 32) × (length (now «by_upper») ≡ 32) ⌝ }
+    requires { ⌜ NetworkAt (now s) start (turnsOf (now s)) (linksOf (now s)) × (from ≤ end) × (end ≤ turnsOf (now s)) × WithinCaps (now s) (now lower) × WithinCaps (now s) (now upper) × (length (now «by_lower») ≡ 32) × (length (now «by_upper») ≡ 32) ⌝ }
     ensures { λ r. ⌜ Supplies (now (s .entry)) (at (now (lower .entry))) from end (now («by_lower» .exit)) × Supplies (now (s .entry)) (at (now (upper .entry))) from end (now («by_upper» .exit))
         × TwoLeast (supplyAt (now (s .entry)) (at (now (lower .entry)))) from end (r .lower .least) (r .lower .next) × TwoLeast (supplyAt (now (s .entry)) (at (now (upper .entry)))) from end (r .upper .least) (r .upper .next) ⌝ }
 {

@@ -7,7 +7,7 @@ use native.Mathlib.Nat.{add-zero, add-assoc}
 use native.Mathlib.Numerals.{add-one}
 use lib.ListN.{length, set, take, drop, getD, length-append, length-drop, take-append-drop}
 use lib.Seq.{append-snoc, length-take-le, take-at, drop-at, drop-drop, take-suc, take-set-le, set-split}
-use Rattle.text.specs.Place.{written, Put, Room}
+use Rattle.text.specs.TextPut.{written, Put, Room}
 
 -- nothing written leaves the buffer as it was
 pub written-none : (b : List ℕ) (at : ℕ) → written b at [] ≡ b

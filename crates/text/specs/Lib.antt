@@ -1,3 +1,3 @@
 -- A line of numbers as the code writes it, and where it is written.
-pub mod Place
 pub mod NumberLines
+pub mod TextPut

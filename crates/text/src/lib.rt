@@ -6,7 +6,7 @@ ghost use Prim.Native.Nat.{_+_, _*_, _<_, _≤_};
 ghost use lib.ListN.{length};
 ghost use Rattle.listing_text.specs.Text.{decimal};
 ghost use Rattle.text.specs.NumberLines.{numbersLine};
-ghost use Rattle.text.specs.Place.{Room, Put};
+ghost use Rattle.text.specs.TextPut.{Room, Put};
 
 pub fn put_word(buffer: &mut [u8], at: usize, word: &[u8]) -> usize
     requires { ⌜ Room (now buffer) at (now word) ⌝ }

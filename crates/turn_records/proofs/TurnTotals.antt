@@ -15,7 +15,7 @@ use Rattle.certificate.specs.Loops.{pick, sumTo}
 use Rattle.certificate.specs.Layout.{fromOf, toOf, shareOf}
 use Rattle.certificate.specs.Records.{pairBelow, turnAscends, shareTotal, turnOk, turnFault}
 use Rattle.certificate.specs.Facts.{PairBelow}
-use Rattle.turn_records.specs.Carried.{turnFits, SharesBefore}
+use Rattle.turn_records.specs.ShareTotals.{turnFits, SharesBefore}
 use Rattle.certificate.proofs.Ascending.{pairs-ascend, ascends-first, ascends-after}
 use Rattle.certificate.proofs.Tests.{and-both}
 use Rattle.certificate.proofs.Agreement.{also-same}

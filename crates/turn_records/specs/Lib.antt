@@ -1,2 +1,2 @@
 -- What the code that reads turns goes by.
-pub mod Carried
+pub mod ShareTotals

@@ -6,14 +6,14 @@ use mathlib.Core.Path.{_≡_, refl, sym, ap, _∙_}
 use mathlib.Core.Logic.{⊎-elim}
 use lib.Dec.{eqb}
 use Rattle.certificate.specs.declared.Report.{Report}
-use Rattle.certificate.specs.Loops.{turns, from}
+use Rattle.certificate.specs.Loops.{rounds, loopFrom}
 use Rattle.certificate.specs.Checks.{orElse}
 use Rattle.certificate.specs.Layout.{cellsOf, boxesOf, entriesOf}
 use Rattle.certificate.proofs.Tests.{passes, or-next, or-stop}
 use Rattle.octets.proofs.Cases.{first, second}
-use Rattle.certificate.proofs.Loops.{from-turn, from-end}
+use Rattle.certificate.proofs.Loops.{loop-round, loop-end}
 use borrow.Author.Tests.{eq-eqb, ne-eqb}
-use Rattle.judging.specs.Judging.{standingFault, cellTurn, boxTurn, entryTurn, accepted, judgingFrom}
+use Rattle.judging.specs.EntryTests.{standingFault, cellRound, boxRound, entryRound, accepted, judgingFrom}
 use Rattle.entry_search.specs.Search.{boxesFrom}
 use Rattle.verdict.specs.Entries.{entryAlone}
 
@@ -29,9 +29,9 @@ after-stop : (r : Report) (next : ℕ → Report) → (r .number ≡ 0 → ⊥) 
 unfolding after
 after-stop r next z = rw (ne-eqb (r .number) 0 z)
 
--- a turn that does with what is next as `after` does
+-- a round that does with what is next as `after` does
 abbrev Regular : (ℕ → ℕ → (ℕ → Report) → Report) → Type 0
-Regular turn = (i n : ℕ) (next : ℕ → Report) → turn i n next ≡ after (turn i n accepted) next
+Regular round = (i n : ℕ) (next : ℕ → Report) → round i n next ≡ after (round i n accepted) next
 
 or-regular : (f : Report) (n : ℕ) (next : ℕ → Report) → orElse f (next n) ≡ after (orElse f (accepted n)) next
 or-regular f n next =
@@ -40,78 +40,78 @@ or-regular f n next =
     (λ (z : f .number ≡ 0 → ⊥). rw (or-stop f (next n) z, or-stop f (accepted n) z) (sym (after-stop f next z)))
     (passes f)
 
--- a loop of regular turns is regular
-module _ (turn : ℕ → ℕ → (ℕ → Report) → Report) (regular : Regular turn) where
-  turns-regular : (k i n : ℕ) (next : ℕ → Report) → turns turn next k i n ≡ after (turns turn accepted k i n) next
-  unfolding turns
-  turns-regular zero i n next = sym (after-pass (accepted n) next refl)
-  turns-regular (suc k) i n next =
-      let r = turn i n accepted in
-      let rest = turns turn accepted k (i + 1) in
+-- a loop of regular rounds is regular
+module _ (round : ℕ → ℕ → (ℕ → Report) → Report) (regular : Regular round) where
+  rounds-regular : (k i n : ℕ) (next : ℕ → Report) → rounds round next k i n ≡ after (rounds round accepted k i n) next
+  unfolding rounds
+  rounds-regular zero i n next = sym (after-pass (accepted n) next refl)
+  rounds-regular (suc k) i n next =
+      let r = round i n accepted in
+      let rest = rounds round accepted k (i + 1) in
       ⊎-elim
-      (λ (z : r .number ≡ 0). regular i n _ ∙ after-pass r _ z ∙ turns-regular k (i + 1) (r .count) next ∙ ap (λ (q : Report). after q next) (sym (regular i n rest ∙ after-pass r rest z)))
+      (λ (z : r .number ≡ 0). regular i n _ ∙ after-pass r _ z ∙ rounds-regular k (i + 1) (r .count) next ∙ ap (λ (q : Report). after q next) (sym (regular i n rest ∙ after-pass r rest z)))
       (λ (z : r .number ≡ 0 → ⊥). regular i n _ ∙ after-stop r _ z ∙ sym (ap (λ (q : Report). after q next) (regular i n rest ∙ after-stop r rest z) ∙ after-stop r next z))
       (passes r)
 
-  loop-regular : (m i n : ℕ) (next : ℕ → Report) → from turn next m i n ≡ after (from turn accepted m i n) next
-  unfolding from
-  loop-regular m i n next = turns-regular (m - i) i n next
+  loop-regular : (m i n : ℕ) (next : ℕ → Report) → loopFrom round next m i n ≡ after (loopFrom round accepted m i n) next
+  unfolding loopFrom
+  loop-regular m i n next = rounds-regular (m - i) i n next
 
-cell-regular : (s : List ℕ) (e b : ℕ) → Regular (cellTurn s e b)
-unfolding cellTurn
+cell-regular : (s : List ℕ) (e b : ℕ) → Regular (cellRound s e b)
+unfolding cellRound
 cell-regular s e b d n next = or-regular _ _ next
 
-box-regular : (s : List ℕ) (e : ℕ) → Regular (boxTurn s e)
-unfolding boxTurn
-box-regular s e b n next = loop-regular (cellTurn s e b) (cell-regular s e b) (cellsOf s) 0 n next
+box-regular : (s : List ℕ) (e : ℕ) → Regular (boxRound s e)
+unfolding boxRound
+box-regular s e b n next = loop-regular (cellRound s e b) (cell-regular s e b) (cellsOf s) 0 n next
 
-entry-regular : (s : List ℕ) → Regular (entryTurn s)
-unfolding entryTurn
+entry-regular : (s : List ℕ) → Regular (entryRound s)
+unfolding entryRound
 entry-regular s e n next =
     let f = standingFault s e n in
     ⊎-elim
     (λ (z : f .number ≡ 0).
     or-next f _ z
-    ∙ loop-regular (boxTurn s e) (box-regular s e) (boxesOf s) 0 n next
-    ∙ ap (λ (q : Report). after q next) (sym (or-next f (from (boxTurn s e) accepted (boxesOf s) 0 n) z)))
+    ∙ loop-regular (boxRound s e) (box-regular s e) (boxesOf s) 0 n next
+    ∙ ap (λ (q : Report). after q next) (sym (or-next f (loopFrom (boxRound s e) accepted (boxesOf s) 0 n) z)))
     (λ (z : f .number ≡ 0 → ⊥).
     or-stop f _ z
-    ∙ sym (ap (λ (q : Report). after q next) (or-stop f (from (boxTurn s e) accepted (boxesOf s) 0 n) z) ∙ after-stop f next z))
+    ∙ sym (ap (λ (q : Report). after q next) (or-stop f (loopFrom (boxRound s e) accepted (boxesOf s) 0 n) z) ∙ after-stop f next z))
     (passes f)
 
 -- an entry judged alone, with the report r, and the whole: what is next goes on from its count, or it is the answer
 module _ (s : List ℕ) (e n : ℕ) (next : ℕ → Report) (r : Report) (alone : r ≡ entryAlone s e n) where
-  pub entry-passes-on : r .number ≡ 0 → entryTurn s e n next ≡ next (r .count)
+  pub entry-passes-on : r .number ≡ 0 → entryRound s e n next ≡ next (r .count)
   unfolding entryAlone
   entry-passes-on z = entry-regular s e n next ∙ ap (λ (q : Report). after q next) (sym alone) ∙ after-pass r next z
 
-  pub entry-stops-at : (r .number ≡ 0 → ⊥) → entryTurn s e n next ≡ r
+  pub entry-stops-at : (r .number ≡ 0 → ⊥) → entryRound s e n next ≡ r
   unfolding entryAlone
   entry-stops-at z = entry-regular s e n next ∙ ap (λ (q : Report). after q next) (sym alone) ∙ after-stop r next z
 
 -- an entry judged alone: its standing, then its search
 module _ (s : List ℕ) (e n : ℕ) (f : Report) (standing : f ≡ standingFault s e n) where
   pub not-standing : (f .number ≡ 0 → ⊥) → f ≡ entryAlone s e n
-  unfolding entryAlone entryTurn
+  unfolding entryAlone entryRound
   not-standing z = first f _ _ standing z
 
   pub searched : (r : Report) → f .number ≡ 0 → r ≡ boxesFrom s e 0 n → r ≡ entryAlone s e n
-  unfolding entryAlone entryTurn boxesFrom
+  unfolding entryAlone entryRound boxesFrom
   searched r z q = second f _ _ r standing z q
 
 -- the loop over entries: go on, stop, end
 module _ (s : List ℕ) (entries e n : ℕ) (count : entries ≡ entriesOf s) (t : Report) where
-  turn : e < entries → judgingFrom s e n ≡ t → entryTurn s e n (judgingFrom s (e + 1)) ≡ t
+  round : e < entries → judgingFrom s e n ≡ t → entryRound s e n (judgingFrom s (e + 1)) ≡ t
   unfolding judgingFrom
-  turn lt p = sym (from-turn (entryTurn s) accepted (entriesOf s) e n (rw count at lt)) ∙ p
+  round lt p = sym (loop-round (entryRound s) accepted (entriesOf s) e n (rw count at lt)) ∙ p
 
   pub next-entry : (r : Report) (k : ℕ) → e < entries → r ≡ entryAlone s e n → r .number ≡ 0 → k ≡ r .count
       → judgingFrom s e n ≡ t → judgingFrom s (e + 1) k ≡ t
-  next-entry r k lt q z w p = rw w (sym (entry-passes-on s e n (judgingFrom s (e + 1)) r q z) ∙ turn lt p)
+  next-entry r k lt q z w p = rw w (sym (entry-passes-on s e n (judgingFrom s (e + 1)) r q z) ∙ round lt p)
 
   pub stop-entry : (r : Report) → e < entries → r ≡ entryAlone s e n → (r .number ≡ 0 → ⊥) → judgingFrom s e n ≡ t → r ≡ t
-  stop-entry r lt q z p = sym (entry-stops-at s e n (judgingFrom s (e + 1)) r q z) ∙ turn lt p
+  stop-entry r lt q z p = sym (entry-stops-at s e n (judgingFrom s (e + 1)) r q z) ∙ round lt p
 
   pub end-entries : (r : Report) → entries ≤ e → r ≡ accepted n → judgingFrom s e n ≡ t → r ≡ t
   unfolding judgingFrom
-  end-entries r ge q p = q ∙ sym (from-end (entryTurn s) accepted (entriesOf s) e n (rw count at ge)) ∙ p
+  end-entries r ge q p = q ∙ sym (loop-end (entryRound s) accepted (entriesOf s) e n (rw count at ge)) ∙ p

@@ -1,3 +1,3 @@
 -- Judging entry by entry, and the verdict from its parts.
 pub mod Chaining
-pub mod JudgeCases
+pub mod VerdictCases

@@ -2,8 +2,8 @@
 use Prim.Native.Nat.{ℕ}
 use mathlib.Core.List.{List}
 use Rattle.certificate.specs.declared.Report.{Report}
-use Rattle.judging.specs.Judging.{entryTurn, accepted}
+use Rattle.judging.specs.EntryTests.{entryRound, accepted}
 
 -- entry e judged alone: its first refusal, or accepted with the count after it
 unfoldable pub entryAlone : List ℕ → ℕ → ℕ → Report
-entryAlone s e n = entryTurn s e n accepted
+entryAlone s e n = entryRound s e n accepted

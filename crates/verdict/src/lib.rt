@@ -2,20 +2,21 @@
 ghost use mathlib.Core.Path.{_≡_};
 ghost use Prim.Native.Nat.{_+_, _*_, _<_, _≤_};
 ghost use lib.ListN.{length};
-ghost use Rattle.certificate.specs.Layout.{entriesOf, boxesOf, cellsOf};
+ghost use Rattle.certificate.specs.Layout.{maxCells, entriesOf, boxesOf, cellsOf};
 ghost use Rattle.certificate.specs.Facts.{Readable};
-ghost use Rattle.reading.specs.Laid.{LaidOut};
+ghost use Rattle.reading.specs.ReadingResults.{LaidOut};
 ghost use Rattle.network.specs.Laws.{Screened};
 ghost use Rattle.supply.specs.Supply.{FirstTurns};
 ghost use Rattle.cell_tables.specs.Tables.{GridOf, DigitsOf};
 ghost use Rattle.rank_tables.specs.Index.{RanksOf};
-ghost use Rattle.judging.specs.Judging.{judgingFrom};
+ghost use Rattle.judging.specs.EntryTests.{judgingFrom};
 ghost use Rattle.entry_setup.specs.Tables.{CapsOf, TablesOf};
 ghost use Rattle.verdict.specs.Entries.{entryAlone};
 ghost use Rattle.judging.specs.Verdict.{verdictOf};
 use cell_tables::digits as cells;
 use cell_tables::tables;
 use certificate::Report;
+use certificate::limits;
 use entry_records::entries;
 use entry_search::search;
 use entry_setup::LinkTables;
@@ -39,8 +40,8 @@ fn judge_entry(
     e: usize,
     count: u32,
 ) -> Report
-    requires { ⌜ LaidOut (now s) layout × TablesOf (now s) tables (now edges) (now arrivals) × RanksOf (now s) (now ranks) × (e < entriesOf (now s)) × (count ≤ 32768 * e) × DigitsOf (now s) (now digits) × (length (now runs) ≡ 4096) ⌝ }
-    ensures { λ r. ⌜ (r ≡ entryAlone (now (s .entry)) e count) × (r .count ≤ 32768 * (e + 1)) × (length (now (runs .exit)) ≡ 4096) ⌝ }
+    requires { ⌜ LaidOut (now s) layout × TablesOf (now s) tables (now edges) (now arrivals) × RanksOf (now s) (now ranks) × (e < entriesOf (now s)) × (count ≤ 32768 * e) × DigitsOf (now s) (now digits) × (length (now runs) ≡ maxCells) ⌝ }
+    ensures { λ r. ⌜ (r ≡ entryAlone (now (s .entry)) e count) × (r .count ≤ 32768 * (e + 1)) × (length (now (runs .exit)) ≡ maxCells) ⌝ }
 {
     let task = entry::task_of(s, layout, e);
     let c = entries::cell_of(s, layout.entries_start, e);
@@ -66,7 +67,7 @@ fn judge_entries(
     arrivals: &[usize; 128],
     runs: &mut [u16],
 ) -> Report
-    requires { ⌜ LaidOut (now s) layout × TablesOf (now s) tables (now edges) (now arrivals) × RanksOf (now s) (now ranks) × DigitsOf (now s) (now digits) × (length (now runs) ≡ 4096) ⌝ }
+    requires { ⌜ LaidOut (now s) layout × TablesOf (now s) tables (now edges) (now arrivals) × RanksOf (now s) (now ranks) × DigitsOf (now s) (now digits) × (length (now runs) ≡ maxCells) ⌝ }
     ensures { λ r. ⌜ r ≡ judgingFrom (now (s .entry)) 0 0 ⌝ }
 {
     let entries = layout.entries;
@@ -138,7 +139,7 @@ fn judge_screened(s: &[u8], layout: Layout) -> Report
     let arrivals = amounts::arrivals_of(s, layout.arrivals_start, links, layout.boxes);
     let mut ranks = [0u32; 32768];
     rank_table(s, layout, &mut ranks);
-    let mut runs = [0u16; 4096];
+    let mut runs = [0u16; limits::MAX_CELLS];
     judge_entries(
         s,
         layout,

@@ -1,6 +1,6 @@
 //! Random calls on both sides.
 
-mod slices;
+pub mod slices;
 
 use crate::generate::{
     any_query, any_state, any_write, bytes::bytes_of, certificate, damaged, Size,
@@ -10,7 +10,7 @@ use crate::sides::{judge, list, listed, screen, Agreed, Difference, Sides};
 use crate::tally::Tally;
 use second::reading::read;
 use second::text::decode;
-use second::Certificate;
+use second::{Certificate, State};
 
 /// How much is compared, and from which seed.
 #[derive(Clone, Debug)]
@@ -32,7 +32,7 @@ pub struct Found {
 /// Compares until the plan is done or a difference is found.
 pub fn differential(plan: &Plan) -> Result<Tally, Box<Found>> {
     let mut run = Run {
-        sides: Sides::fresh(),
+        sides: Sides::of(State::fresh()),
         base: certificate(&mut Numbers::of(plan.seed, u64::MAX), Size::Small),
         held: None,
         bytes: Vec::new(),
@@ -83,6 +83,9 @@ impl Run {
         }
         if numbers.chance(5) {
             slices::compare(&self.bytes, &self.sides, numbers)?;
+        }
+        if numbers.chance(5) {
+            self.sides.fresh()?;
         }
         Ok(())
     }

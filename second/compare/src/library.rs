@@ -1,20 +1,28 @@
 //! The exported functions of the library, as safe functions on slices.
 //!
 //! A report receives number, place A, place B and count; a query's answer also signal and green byte.
-//! Each function returns the number. A state, report or answer that is too short gives `TOO_SHORT` and changes nothing.
+//! Each function returns the number. A report or answer that is too short gives `TOO_SHORT` and changes nothing; a state
+//! of another length than `STATE_SIZE` gives `NO_STATE`, in the report too, and its bytes stay.
 
-/// Bytes of a state: the stored array, its length in eight bytes (high byte first), the mode.
-pub const STATE_SIZE: usize = 37_772;
+use second::State;
+
+/// Bytes of the length in a state.
+pub const LENGTH_SIZE: usize = 8;
+/// Bytes of a state: the stored array, its length (high byte first), the mode.
+pub const STATE_SIZE: usize = State::CAPACITY + LENGTH_SIZE + 1;
 /// Numbers of a report.
 pub const REPORT_SIZE: usize = 4;
 /// Numbers of a query's answer.
 pub const SHOWN_SIZE: usize = 6;
-/// The result for a slice that is too short.
+/// The result for a report or an answer that is too short.
 pub const TOO_SHORT: u32 = 255;
+/// The result for a state of another length.
+pub const NO_STATE: u32 = 18;
 
 extern "C" {
     fn dergvost_screen(s: *const u8, s_len: usize, report: *mut u32, report_len: usize) -> u32;
     fn dergvost_judge(s: *const u8, s_len: usize, report: *mut u32, report_len: usize) -> u32;
+    fn dergvost_fresh(state: *mut u8, state_len: usize) -> u32;
     fn dergvost_load(
         state: *mut u8,
         state_len: usize,
@@ -75,6 +83,12 @@ pub fn judge(bytes: &[u8], report: &mut [u32]) -> u32 {
             report.len(),
         )
     }
+}
+
+/// Makes the state fresh.
+pub fn fresh(state: &mut [u8]) -> u32 {
+    // SAFETY: as for `screen`.
+    unsafe { dergvost_fresh(state.as_mut_ptr(), state.len()) }
 }
 
 /// Judges the bytes, and stores them if they are accepted.

@@ -1,7 +1,7 @@
 //! The library and the second checker side by side: every call is made on both, and all that it leaves is compared.
 
 use crate::generate::Query;
-use crate::library::{self, REPORT_SIZE, SHOWN_SIZE, STATE_SIZE};
+use crate::library::{self, LENGTH_SIZE, REPORT_SIZE, SHOWN_SIZE};
 use second::conditions::read_sound;
 use second::{listing, Report, State};
 
@@ -134,10 +134,6 @@ pub fn listed(bytes: &[u8]) -> String {
 }
 
 impl Sides {
-    pub fn fresh() -> Sides {
-        Sides::of(State::fresh())
-    }
-
     /// Both sides in this state.
     pub fn of(own: State) -> Sides {
         let library = state_bytes(&own);
@@ -146,7 +142,7 @@ impl Sides {
 
     fn agree_states(&self, call: impl FnOnce() -> String) -> Agreed<()> {
         let (stored, rest) = self.library.split_at(State::CAPACITY);
-        let (length, mode) = rest.split_at(STATE_SIZE - 1 - State::CAPACITY);
+        let (length, mode) = rest.split_at(LENGTH_SIZE);
         let same = stored == self.own.stored
             && length == (self.own.length as u64).to_be_bytes()
             && mode == [self.own.mode];
@@ -155,6 +151,15 @@ impl Sides {
         }
         let call = || format!("state after {}", call());
         agree_bytes(call, &state_bytes(&self.own), &self.library)
+    }
+
+    /// Both sides become fresh.
+    pub fn fresh(&mut self) -> Agreed<()> {
+        let call = || "fresh".to_string();
+        self.own = State::fresh();
+        let result = library::fresh(&mut self.library);
+        agree(call, &[0], result, &[result])?;
+        self.agree_states(call)
     }
 
     pub fn load(&mut self, bytes: &[u8]) -> Agreed<Report> {

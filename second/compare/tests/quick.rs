@@ -1,7 +1,11 @@
 //! A fixed part of every comparison.
 
-use compare::differential::{differential, shown, Plan};
+use compare::differential::{differential, shown, slices, Plan};
+use compare::numbers::Numbers;
 use compare::readings::{readings, Extent};
+use compare::samples;
+use compare::sides::Sides;
+use second::State;
 
 #[test]
 fn library_and_second_checker_agree() {
@@ -30,4 +34,24 @@ fn library_and_second_checker_agree() {
 fn readings_agree() {
     let tried = readings(Extent::Part).unwrap_or_else(|difference| panic!("{difference}"));
     assert!(tried > 2_000);
+}
+
+/// On a fresh state and on one that holds a certificate, with bytes that load as accepted and with others.
+#[test]
+fn slices_of_other_lengths() {
+    let listed = samples::listed();
+    let mut sides = Sides::of(State::by_hand(&[255; State::CAPACITY], 3, 200));
+    let mut numbers = Numbers::of(7, 0);
+    let mut compare = |bytes: &[u8], sides: &Sides| {
+        for _ in 0..20 {
+            let compared = slices::compare(bytes, sides, &mut numbers);
+            compared.unwrap_or_else(|difference| panic!("{difference:?}"));
+        }
+    };
+    compare(&listed, &sides);
+    sides.fresh().expect("fresh");
+    compare(&listed, &sides);
+    sides.load(&listed).expect("load");
+    compare(&listed, &sides);
+    compare(&listed[1..], &sides);
 }

@@ -2,9 +2,8 @@
 use mathlib.Core.Path.{_≡_}
 use mathlib.Core.Bool.{true}
 use Rattle.octets.proofs.Cases.{not-yes, not-no}
-use Rattle.rank_tables.proofs.Finding.{cells-ascend}
 use Rattle.judging.specs.Asking.{isProper}
-use Rattle.asking.proofs.Answers.{finds-improper, as-many, scale-fits, queues-fit, finds-none, finds}
+use Rattle.asking.proofs.Answers.{finds-improper, as-many, scale-fits, queues-fit, finds-cell}
 use borrow.Author.Needs.{needs}
 use Rattle.asking.proofs.look_up.Statement.{statement}
 use Rattle.asking.proofs.look_up.Tie as tie
@@ -27,23 +26,13 @@ cell-at-requires c κs =
     let laid = a .pre .0 in
     (a .pre .1, laid .grid-is, laid .links-are, as-many s (a .args .mode) queues _ ok (laid .links-are), scale-fits s (a .args .mode) queues _ ok, queues-fit s (a .args .mode) queues _ ok)
 
-find-entry-requires : tie.Need-find-entry-requires
-find-entry-requires c κs =
+find-cell-requires : tie.Need-find-cell-requires
+find-cell-requires c κs =
     let a = c .before .before .before .before .before .before .before in
-    let laid = a .pre .0 in
-    (laid .entries-start-most, laid .entries-start-is, laid .entries-most, laid .entries-are, cells-ascend (a .args .s .now) (a .pre .1), search needs)
-
-not-found-requires-2 : tie.Need-not-found-requires-2
-not-found-requires-2 c κs = search needs
+    (a .pre .0, a .pre .1, search needs)
 
 returns-2 : tie.Need-returns-2
-returns-2 c = search (finds-none, not-no)
-
-found-at-requires : tie.Need-found-at-requires
-found-at-requires c κs = (c .before .before .before .before .before .before .before .before .before .pre .0, search needs)
-
-returns-3 : tie.Need-returns-3
-returns-3 c = search (finds, not-no)
+returns-2 c = search (finds-cell, not-no)
 
 pub look-up-spec : {M : Type 1} → statement M
 look-up-spec =
@@ -53,8 +42,5 @@ look-up-spec =
     not-found-requires
     returns
     cell-at-requires
-    find-entry-requires
-    not-found-requires-2
-    returns-2
-    found-at-requires
-    returns-3)
+    find-cell-requires
+    returns-2)

@@ -1,12 +1,12 @@
 -- `exports::dergvost_list` meets its contract: the listing's report and its buffer, where the report's slice has room. Assumes nothing.
 use native.Mathlib.Omega.{arith}
-use mathlib.Core.Path.{refl}
 use borrow.Author.Needs.{needs}
+use Rattle.exports.proofs.Answering.{nothing-done, all-done}
 use Rattle.exports.proofs.dergvost_list.Statement.{statement}
 use Rattle.exports.proofs.dergvost_list.Tie as tie
 
 returns : tie.Need-returns
-returns c = record { done = λ h. absurd (omega arith); short = λ h. (refl, refl, refl) }
+returns c = nothing-done (omega arith)
 
 list-requires : tie.Need-list-requires
 list-requires c κs = search needs
@@ -21,7 +21,9 @@ same-length-2 : tie.Need-same-length-2
 same-length-2 c = search needs
 
 returns-2 : tie.Need-returns-2
-returns-2 c = record { done = λ h. rw (← c .before .before .before .before .before .before .list .ensures .report) (c .before .before .put-report .ensures .0, c .before .before .before .before .before .before .list .ensures .bytes, c .before .before .put-report .ensures .1); short = λ h. absurd (h (omega arith)) }
+returns-2 c =
+    let listed = c .before .before .before .before .before .before .list .ensures in
+    all-done (omega arith) (rw (← listed .report) (c .before .before .put-report .ensures)) (listed .bytes)
 
 pub dergvost-list-spec : {M : Type 1} → statement M
 dergvost-list-spec =

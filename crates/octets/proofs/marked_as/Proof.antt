@@ -4,19 +4,19 @@ use borrow.Author.Needs.{needs}
 use Rattle.octets.proofs.marked_as.Statement.{statement}
 use Rattle.octets.proofs.marked_as.Tie as tie
 
-byte-within-requires : tie.Need-byte-within-requires
-byte-within-requires c κs = search needs
+byte-at-requires : tie.Need-byte-at-requires
+byte-at-requires c κs = search needs
 
-add-byte-within : tie.Need-add-byte-within
-add-byte-within c = search needs
+add-byte-at : tie.Need-add-byte-at
+add-byte-at c = search needs
 
-byte-within-requires-2 : tie.Need-byte-within-requires-2
-byte-within-requires-2 c κs = search needs
+byte-at-requires-2 : tie.Need-byte-at-requires-2
+byte-at-requires-2 c κs = search needs
 
 returns : tie.Need-returns
 unfolding marked
-returns c = rw (c .byte-within2 .ensures .0, c .before .byte-within .ensures .0)
+returns c = rw (c .byte-at2 .ensures .0, c .before .byte-at .ensures .0)
 
 pub marked-as-spec : {M : Type 1} → statement M
 marked-as-spec =
-    tie.close (tie.spec byte-within-requires add-byte-within byte-within-requires-2 returns)
+    tie.close (tie.spec byte-at-requires add-byte-at byte-at-requires-2 returns)

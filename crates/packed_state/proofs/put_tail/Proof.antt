@@ -1,6 +1,6 @@
 -- `packed_state::put_tail` meets its contract: nine bytes at the front of a slice that has room. Assumes nothing.
 use mathlib.Core.Path.{_∙_}
-use Rattle.packed_state.specs.State.{tailOf}
+use Rattle.packed_state.specs.State.{stateTail}
 use borrow.Author.Needs.{needs}
 use Rattle.packed_state.proofs.put_tail.Statement.{statement}
 use Rattle.packed_state.proofs.put_tail.Tie as tie
@@ -18,7 +18,7 @@ same-length : tie.Need-same-length
 same-length c = search needs
 
 returns : tie.Need-returns
-unfolding tailOf
+unfolding stateTail
 returns c = c .before .before .put .ensures ∙ rw (c .before .before .before .before .before .tail-of .ensures)
 
 pub put-tail-spec : {M : Type 1} → statement M

@@ -20,8 +20,9 @@ shared-slice-read-mode c = search needs
 
 returns : tie.Need-returns
 returns c =
-    let s = c .before .before .before .before .before .before .args .state .now in
-    made s _ _ _ (copied maxLength s _ (c .before .before .before .put .ensures)) (c .before .eight-at .ensures) refl
+    let start = c .before .before .before .before .before .before in
+    let s = start .args .state .now in
+    made s _ _ _ (start .pre) (copied maxLength s _ (c .before .before .before .put .ensures)) (c .before .eight-at .ensures) refl
 
 pub unpack-spec : {M : Type 1} → statement M
 unpack-spec =

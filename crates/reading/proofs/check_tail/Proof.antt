@@ -1,8 +1,8 @@
 -- `reading::check_tail` meets its contract. Assumes nothing.
-use mathlib.Core.Path.{_≡_}
+use mathlib.Core.Path.{_≡_, _∙_}
 use Rattle.certificate.specs.Layout.{endAt}
 use Rattle.certificate.specs.Reading.{arrivalsFault, entriesFault}
-use Rattle.reading.specs.Laid.{tailFault}
+use Rattle.reading.specs.ReadingResults.{tailFault}
 use Rattle.octets.proofs.Cases.{first, second}
 use borrow.Author.Needs.{needs}
 use Rattle.reading.proofs.check_tail.Statement.{statement}
@@ -31,21 +31,18 @@ returns-2 : tie.Need-returns-2
 unfolding tailFault
 returns-2 c = second _ _ _ _ (arrivals-said (c .before .before .before .before .before)) (c .before .before .before .if1 .left) (first _ _ _ (entries-said (c .before .before)) (c .if2 .taken))
 
-mul-check-end : tie.Need-mul-check-end
-mul-check-end c = search needs
-
-add-check-end : tie.Need-add-check-end
-add-check-end c = search needs
+entry-at-requires : tie.Need-entry-at-requires
+entry-at-requires c κs = search needs
 
 check-end-requires : tie.Need-check-end-requires
 unfolding endAt
-check-end-requires c κs = (search needs, rw (c .before .before .before .before .before .before .before .before .before .pre .entries-start-is, c .before .before .before .before .before .before .before .before .before .pre .entries-are))
+check-end-requires c κs = let given = c .before .before .before .before .before .before .before .before .pre in (search needs, c .entry-at .ensures .0 ∙ rw (given .entries-start-is, given .entries-are))
 
 returns-3 : tie.Need-returns-3
 unfolding tailFault
 returns-3 c =
-    second _ _ _ _ (arrivals-said (c .before .before .before .before .before .before .before .before)) (c .before .before .before .before .before .before .if1 .left)
-    (second _ _ _ _ (entries-said (c .before .before .before .before .before)) (c .before .before .before .if2 .left) (c .check-end .ensures))
+    second _ _ _ _ (arrivals-said (c .before .before .before .before .before .before .before)) (c .before .before .before .before .before .if1 .left)
+    (second _ _ _ _ (entries-said (c .before .before .before .before)) (c .before .before .if2 .left) (c .check-end .ensures))
 
 pub check-tail-spec : {M : Type 1} → statement M
 check-tail-spec =
@@ -55,7 +52,6 @@ check-tail-spec =
     returns
     check-entries-requires
     returns-2
-    mul-check-end
-    add-check-end
+    entry-at-requires
     check-end-requires
     returns-3)

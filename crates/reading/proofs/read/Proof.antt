@@ -17,8 +17,11 @@ returns c =
     let bad = c .before .if1 .taken in
     refused-as (c .refused .ensures) bad (first _ _ _ (c .before .before .before .check-header .ensures) bad ∙ in-stages _)
 
+starts-of-requires : tie.Need-starts-of-requires
+starts-of-requires c κs = search needs
+
 check-network-requires : tie.Need-check-network-requires
-check-network-requires c κs = header-facts _ (c .before .before .check-header .ensures) (c .if1 .left)
+check-network-requires c κs = (header-facts _ (c .before .before .before .check-header .ensures) (c .before .if1 .left), c .starts-of .ensures)
 
 refused-requires-2 : tie.Need-refused-requires-2
 refused-requires-2 c κs = search needs
@@ -27,15 +30,15 @@ returns-2 : tie.Need-returns-2
 returns-2 c =
     let bad = c .before .if2 .taken in
     refused-as (c .refused2 .ensures) bad
-    (second _ _ _ _ (c .before .before .before .before .before .before .check-header .ensures) (c .before .before .before .before .if1 .left) (first _ _ _ (c .before .before .before .check-network .ensures) bad) ∙ in-stages _)
+    (second _ _ _ _ (c .before .before .before .before .before .before .before .check-header .ensures) (c .before .before .before .before .before .if1 .left) (first _ _ _ (c .before .before .before .check-network .ensures) bad) ∙ in-stages _)
 
 read-back-requires : tie.Need-read-back-requires
-read-back-requires c κs = header-facts _ (c .before .before .before .before .before .check-header .ensures) (c .before .before .before .if1 .left)
+read-back-requires c κs = (header-facts _ (c .before .before .before .before .before .before .check-header .ensures) (c .before .before .before .before .if1 .left), c .before .before .before .starts-of .ensures)
 
 returns-3 : tie.Need-returns-3
 returns-3 c =
     read-as (c .read-back .ensures)
-    (λ e. second _ _ _ _ (c .before .before .before .before .before .before .check-header .ensures) (c .before .before .before .before .if1 .left) (second _ _ _ _ (c .before .before .before .check-network .ensures) (c .before .if2 .left) e) ∙ in-stages _)
+    (λ e. second _ _ _ _ (c .before .before .before .before .before .before .before .check-header .ensures) (c .before .before .before .before .before .if1 .left) (second _ _ _ _ (c .before .before .before .check-network .ensures) (c .before .if2 .left) e) ∙ in-stages _)
 
 pub read-spec : {M : Type 1} → statement M
 read-spec =
@@ -44,6 +47,7 @@ read-spec =
     check-header-requires
     refused-requires
     returns
+    starts-of-requires
     check-network-requires
     refused-requires-2
     returns-2

@@ -1,7 +1,7 @@
 -- `reading::read_back` meets its contract. Assumes nothing.
 use mathlib.Core.Path.{_≡_}
 use Rattle.certificate.specs.Reading.{gridsFault}
-use Rattle.reading.specs.Laid.{backFault}
+use Rattle.reading.specs.ReadingResults.{backFault}
 use Rattle.octets.proofs.Cases.{first, second}
 use Rattle.reading.proofs.Stages.{refused-as}
 use borrow.Author.Needs.{needs}
@@ -9,15 +9,12 @@ use Rattle.reading.proofs.read_back.Statement.{statement}
 use Rattle.reading.proofs.read_back.Tie as tie
 
 -- what the tests of the grids answered
-grids-said : (c : tie.After-check-grids) → c .check-grids .result .report ≡ gridsFault (c .before .before .before .before .args .s .now)
+grids-said : (c : tie.After-check-grids) → c .check-grids .result .report ≡ gridsFault (c .before .before .before .args .s .now)
 unfolding gridsFault
-grids-said c = rw (← c .before .byte-at .ensures .0) (c .check-grids .ensures .report-is)
+grids-said c = rw (← c .before .links-of .ensures .0) (c .check-grids .ensures .report-is)
 
-grids-start-requires : tie.Need-grids-start-requires
-grids-start-requires c κs = search needs
-
-byte-at-requires : tie.Need-byte-at-requires
-byte-at-requires c κs = search needs
+links-of-requires : tie.Need-links-of-requires
+links-of-requires c κs = search needs
 
 check-grids-requires : tie.Need-check-grids-requires
 check-grids-requires c κs = search needs
@@ -32,7 +29,9 @@ returns c =
     refused-as (c .refused .ensures) bad (first _ _ _ (grids-said (c .before .before .before .before)) bad)
 
 lay-out-requires : tie.Need-lay-out-requires
-lay-out-requires c κs = (c .before .before .before .before .before .before .before .pre, rw (← c .before .before .before .before .byte-at .ensures .0) (c .before .before .before .check-grids .ensures .laid (c .if1 .left)))
+lay-out-requires c κs =
+    let given = c .before .before .before .before .before .before .pre in
+    (given .0, given .1, rw (← c .before .before .before .before .links-of .ensures .0) (c .before .before .before .check-grids .ensures .laid (c .if1 .left)))
 
 check-tail-requires : tie.Need-check-tail-requires
 check-tail-requires c κs = search needs
@@ -60,8 +59,7 @@ pub read-back-spec : {M : Type 1} → statement M
 read-back-spec =
     tie.close
     (tie.spec
-    grids-start-requires
-    byte-at-requires
+    links-of-requires
     check-grids-requires
     refused-requires
     returns

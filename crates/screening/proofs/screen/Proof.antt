@@ -1,6 +1,6 @@
 -- `screening::screen` meets its contract. Assumes nothing.
-use Rattle.screening.proofs.Screens.{screen-refuses, screen-roads, screen-signals, pulls-answer, rooms-answer, screen-passes}
-use Rattle.screening.proofs.Bounds.{roads-links}
+use Rattle.screening.proofs.Screens.{screen-refuses, screen-network, screen-signals, pulls-answer, rooms-answer, screen-passes}
+use Rattle.screening.proofs.Bounds.{network-links}
 use borrow.Author.Needs.{needs}
 use Rattle.screening.proofs.screen.Statement.{statement}
 use Rattle.screening.proofs.screen.Tie as tie
@@ -21,7 +21,7 @@ returns-2 : tie.Need-returns-2
 returns-2 c = search pulls-answer
 
 check-rooms-requires : tie.Need-check-rooms-requires
-check-rooms-requires c κs = roads-links (screen-roads (c .before .before .before .before .before .before .before .read .ensures) (c .before .before .before .before .if1 .left))
+check-rooms-requires c κs = network-links (screen-network (c .before .before .before .before .before .before .before .read .ensures) (c .before .before .before .before .if1 .left))
 
 refused-requires-2 : tie.Need-refused-requires-2
 refused-requires-2 c κs = search needs

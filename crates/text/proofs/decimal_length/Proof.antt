@@ -4,7 +4,7 @@ use Prim.Native.Nat.{_+_, _<_, _^_}
 use native.Mathlib.Omega.{arith}
 use lib.ListN.{length}
 use Rattle.listing_text.specs.Text.{decimal}
-use Rattle.text.proofs.Digits.{length-one, length-step, decimal-most}
+use Rattle.listing_text.proofs.Digits.{length-one, length-step, decimal-fits}
 use Rattle.text.proofs.decimal_length.Statement.{statement}
 use Rattle.text.proofs.decimal_length.Tie as tie
 
@@ -19,7 +19,7 @@ loop-holds : tie.Need-loop-holds Inv-loop μ-loop
 loop-holds c = omega arith
 
 add-k : tie.Need-add-k Inv-loop μ-loop
-add-k c = omega (arith, decimal-most (c .before .before .args .n))
+add-k c = omega (arith, decimal-fits (c .before .before .args .n))
 
 loop-less : tie.Need-loop-less Inv-loop μ-loop
 loop-less c = omega arith
@@ -30,7 +30,7 @@ loop-again c = omega (arith, length-step (c .before .loop .left) (omega arith) (
 returns : tie.Need-returns Inv-loop μ-loop
 returns c =
     let one : length (decimal (c .before .loop .left)) ≡ 1 = length-one (c .before .loop .left) (omega arith) in
-    omega (arith, decimal-most (c .before .before .args .n))
+    omega (arith, decimal-fits (c .before .before .args .n))
 
 pub decimal-length-spec : {M : Type 1} → statement M
 decimal-length-spec =

@@ -5,8 +5,9 @@ use native.Mathlib.Omega.{arith}
 use borrow.Author.Needs.{needs}
 use lib.ListN.{length, length-set}
 use Rattle.listing_text.specs.Text.{decimal}
-use Rattle.text.specs.Place.{written}
-use Rattle.text.proofs.Digits.{length-step, decimal-least, digit-stored, digit-last}
+use Rattle.text.specs.TextPut.{written}
+use Rattle.listing_text.proofs.Digits.{length-step, decimal-least}
+use Rattle.text.proofs.Digits.{digit-stored, digit-last}
 use Rattle.text.proofs.put_decimal.Statement.{statement}
 use Rattle.text.proofs.put_decimal.Tie as tie
 

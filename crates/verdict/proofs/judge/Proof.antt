@@ -1,5 +1,5 @@
 -- `verdict::judge` meets its contract. Assumes nothing.
-use Rattle.verdict.proofs.JudgeCases.{judge-refuses, judge-goes-on, judge-answers}
+use Rattle.verdict.proofs.VerdictCases.{judge-refuses, judge-goes-on, judge-answers}
 use borrow.Author.Needs.{needs}
 use Rattle.verdict.proofs.judge.Statement.{statement}
 use Rattle.verdict.proofs.judge.Tie as tie

@@ -5,7 +5,7 @@ use native.Mathlib.Omega.{arith}
 use lib.ListN.{length}
 use borrow.Author.Needs.{needs}
 use Rattle.certificate.specs.Layout.{entriesOf}
-use Rattle.judging.specs.Judging.{judgingFrom}
+use Rattle.judging.specs.EntryTests.{judgingFrom}
 use Rattle.verdict.proofs.Chaining.{next-entry, stop-entry, end-entries}
 use Rattle.verdict.proofs.judge_entries.Statement.{statement}
 use Rattle.verdict.proofs.judge_entries.Tie as tie

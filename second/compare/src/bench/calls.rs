@@ -1,10 +1,10 @@
 //! Calls of the library, ready to be made.
 
 use super::sample::{Asked, Sample, SCALE};
-use crate::library::{self, REPORT_SIZE, SHOWN_SIZE};
-use crate::sides::{report_numbers, state_bytes};
+use crate::library::{self, REPORT_SIZE, SHOWN_SIZE, STATE_SIZE};
+use crate::sides::report_numbers;
 use crate::{fast, peer};
-use second::{Report, State};
+use second::Report;
 use std::hint::black_box;
 
 /// Room for every listing.
@@ -57,6 +57,13 @@ impl Call {
     }
 }
 
+/// The bytes of a fresh state, by the library.
+fn fresh_state() -> Vec<u8> {
+    let mut state = vec![0; STATE_SIZE];
+    library::fresh(&mut state);
+    state
+}
+
 /// A call, the slices it is lent, and what it leaves there.
 pub struct Ready<'a> {
     call: Call,
@@ -70,7 +77,7 @@ pub struct Ready<'a> {
 impl<'a> Ready<'a> {
     pub fn of(call: Call, sample: &'a Sample) -> Ready<'a> {
         let (state, queues) = match call {
-            Call::Load => (state_bytes(&State::fresh()), Vec::new()),
+            Call::Load => (fresh_state(), Vec::new()),
             Call::Query(asked) => (sample.state.clone(), sample.queues(asked)),
             _ => (sample.state.clone(), Vec::new()),
         };

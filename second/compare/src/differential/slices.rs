@@ -1,6 +1,7 @@
-//! Slices of other lengths: too short ones change nothing, and of longer ones only the due part changes.
+//! Slices of other lengths. A report that is too short gets 255, and nothing changes; of a longer one only the due part
+//! changes. A state of another length gets 18, in the report too, and its bytes and the buffer stay.
 
-use crate::library::{self, REPORT_SIZE, SHOWN_SIZE, STATE_SIZE, TOO_SHORT};
+use crate::library::{self, NO_STATE, REPORT_SIZE, SHOWN_SIZE, STATE_SIZE, TOO_SHORT};
 use crate::numbers::Numbers;
 use crate::sides::{agree_bytes, lent_buffer, Agreed, Sides};
 
@@ -34,12 +35,13 @@ impl Lent {
     }
 }
 
-/// Makes every call with a report, and with a state, of another length.
+/// Makes every call with reports, and with states, of other lengths.
 pub fn compare(bytes: &[u8], sides: &Sides, numbers: &mut Numbers) -> Agreed<()> {
     let queues = [0; 8];
     let queues = &queues[..numbers.below(9)];
     let screen: &Call = &|_, report, _| library::screen(bytes, report);
     let judge: &Call = &|_, report, _| library::judge(bytes, report);
+    let fresh: &Call = &|state, _, _| library::fresh(state);
     let load: &Call = &|state, report, _| library::load(state, bytes, report);
     let query: &Call = &|state, shown, _| library::query(state, queues, 1, shown);
     let write: &Call = &|state, report, buffer| library::write(state, buffer, 0, report);
@@ -47,6 +49,7 @@ pub fn compare(bytes: &[u8], sides: &Sides, numbers: &mut Numbers) -> Agreed<()>
     let calls = [
         ("screen", REPORT_SIZE, 0, screen),
         ("judge", REPORT_SIZE, 0, judge),
+        ("fresh", 0, STATE_SIZE, fresh),
         ("load", REPORT_SIZE, STATE_SIZE, load),
         ("query", SHOWN_SIZE, STATE_SIZE, query),
         ("write", REPORT_SIZE, STATE_SIZE, write),
@@ -59,20 +62,41 @@ pub fn compare(bytes: &[u8], sides: &Sides, numbers: &mut Numbers) -> Agreed<()>
             buffer: lent_buffer(numbers.below(3_000)),
             result: 0,
         };
-        short(name, &lent, call, numbers)?;
-        long(name, &lent, call, numbers)?;
+        if report > 0 {
+            short_report(name, &lent, call, numbers)?;
+            long_report(name, &lent, call, numbers)?;
+        }
+        if state > 0 {
+            for size in other_sizes(numbers) {
+                other_state(name, &lent, call, size)?;
+            }
+        }
     }
     Ok(())
 }
 
-/// A state or report that is too short: 255, and nothing changes.
-fn short(name: &str, lent: &Lent, call: &Call, numbers: &mut Numbers) -> Agreed<()> {
+/// Lengths that are no state's: one byte less, one more, and any.
+fn other_sizes(numbers: &mut Numbers) -> [usize; 4] {
+    let less = numbers.below(STATE_SIZE);
+    let more = STATE_SIZE + numbers.between(1, 5_000) as usize;
+    [STATE_SIZE - 1, STATE_SIZE + 1, less, more]
+}
+
+/// As many bytes of a state, and others behind them where it has fewer.
+fn resized(state: &[u8], size: usize) -> Vec<u8> {
+    let mut state = state.to_vec();
+    state.extend(lent_buffer(size.saturating_sub(state.len())));
+    state.truncate(size);
+    state
+}
+
+/// A report that is too short: 255, and nothing changes, whatever the state's length.
+fn short_report(name: &str, lent: &Lent, call: &Call, numbers: &mut Numbers) -> Agreed<()> {
     let mut before = lent.clone();
-    if lent.state.is_empty() || numbers.chance(50) {
-        before.report.truncate(numbers.below(lent.report.len()));
-    } else {
-        let kept = numbers.pick(&[0, 1, STATE_SIZE / 2, STATE_SIZE - 1]);
-        before.state.truncate(kept);
+    before.report.truncate(numbers.below(lent.report.len()));
+    if !lent.state.is_empty() && numbers.chance(50) {
+        let sizes = other_sizes(numbers);
+        before.state = resized(&lent.state, numbers.pick(&sizes));
     }
     let after = before.clone().after(call);
     before.result = TOO_SHORT;
@@ -83,16 +107,27 @@ fn short(name: &str, lent: &Lent, call: &Call, numbers: &mut Numbers) -> Agreed<
     agree_bytes(told, &before.bytes(), &after.bytes())
 }
 
-/// A longer state and report: as with the due lengths, and the rest stays.
-fn long(name: &str, lent: &Lent, call: &Call, numbers: &mut Numbers) -> Agreed<()> {
-    let more = numbers.between(1, 5) as usize;
+/// A longer report: as with the due length, and the rest stays.
+fn long_report(name: &str, lent: &Lent, call: &Call, numbers: &mut Numbers) -> Agreed<()> {
+    let more = vec![BEFORE; numbers.between(1, 5) as usize];
     let mut longer = lent.clone();
-    longer.report.extend(vec![BEFORE; more]);
-    let rest = lent_buffer(if lent.state.is_empty() { 0 } else { more });
-    longer.state.extend(&rest);
+    longer.report.extend(&more);
     let mut due = lent.clone().after(call);
-    due.report.extend(vec![BEFORE; more]);
-    due.state.extend(rest);
-    let told = || format!("{name} with a report and a state longer by {more}");
+    due.report.extend(&more);
+    let told = || format!("{name} with a report longer by {}", more.len());
     agree_bytes(told, &due.bytes(), &longer.after(call).bytes())
+}
+
+/// A state of another length: 18 and else zeros in the report, and state and buffer stay.
+fn other_state(name: &str, lent: &Lent, call: &Call, size: usize) -> Agreed<()> {
+    let mut due = lent.clone();
+    due.state = resized(&lent.state, size);
+    let after = due.clone().after(call);
+    due.report.fill(0);
+    if let Some(number) = due.report.first_mut() {
+        *number = NO_STATE;
+    }
+    due.result = NO_STATE;
+    let told = || format!("{name} with a state of {size} bytes");
+    agree_bytes(told, &due.bytes(), &after.bytes())
 }

@@ -92,7 +92,10 @@ pub fn any_state(bytes: &[u8], numbers: &mut Numbers) -> State {
     let stored = match numbers.below(10) {
         0 => length + 1,
         1 => length.saturating_sub(1),
-        2 => numbers.pick(&[0, 1, 9, 37_762, 37_763, 37_764]),
+        2 => {
+            let full = State::CAPACITY;
+            numbers.pick(&[0, 1, 9, full - 1, full, full + 1])
+        }
         3 => numbers.pick(&[65_536 + length, 1 << 32 | length, 1 << 63, usize::MAX]),
         _ => length,
     };

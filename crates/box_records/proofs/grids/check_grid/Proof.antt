@@ -4,6 +4,9 @@ use borrow.Author.Needs.{needs}
 use Rattle.box_records.proofs.grids.check_grid.Statement.{statement}
 use Rattle.box_records.proofs.grids.check_grid.Tie as tie
 
+marked-as-requires : tie.Need-marked-as-requires
+marked-as-requires c κs = search needs
+
 check-opened-requires : tie.Need-check-opened-requires
 check-opened-requires c κs = search needs
 
@@ -29,6 +32,7 @@ pub check-grid-spec : {M : Type 1} → statement M
 check-grid-spec =
     tie.close
     (tie.spec
+    marked-as-requires
     check-opened-requires
     returns
     count-ok-requires

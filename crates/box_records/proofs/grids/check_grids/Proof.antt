@@ -3,7 +3,6 @@ use Prim.Native.Nat.{_-_, _≤_}
 use mathlib.Core.Path.{_≡_}
 use native.Mathlib.Omega.{arith}
 use borrow.Author.Needs.{needs}
-use lib.ListN.{length}
 use Rattle.certificate.specs.Checks.{firstFrom}
 use Rattle.certificate.specs.Records.{gridFault}
 use Rattle.box_records.specs.GridRecords.{GridsLaid}
@@ -14,13 +13,13 @@ use Rattle.box_records.proofs.grids.check_grids.Statement.{statement}
 use Rattle.box_records.proofs.grids.check_grids.Tie as tie
 
 abbrev Inv-loop : tie.InvT-loop
-Inv-loop s start links places₀ at₀ product₀ l₀ places at product l = (firstFrom links (gridFault s) l ≡ firstFrom links (gridFault s) 0) × GridsLaid s l places at product × (length places ≡ 8) × (l ≤ links)
+Inv-loop s start links places₀ at₀ product₀ l₀ places at product l = (firstFrom links (gridFault s) l ≡ firstFrom links (gridFault s) 0) × GridsLaid s l places at product × (l ≤ links)
 
 abbrev μ-loop : tie.MeasureT-loop
 μ-loop s start links places₀ at₀ product₀ l₀ places at product l = links - l
 
 loop-holds : tie.Need-loop-holds Inv-loop μ-loop
-loop-holds c = (search needs, search laid-none, search needs, search needs)
+loop-holds c = (search needs, search laid-none, search needs)
 
 check-grid-requires : tie.Need-check-grid-requires Inv-loop μ-loop
 check-grid-requires c κs = search needs
@@ -67,7 +66,6 @@ loop-again c =
       go-on _ _ _ _ _ (turn .before .loop-test .taken) (turn .check-grid .ensures) (c .before .if1 .left) (inv .0),
       laid-next _ (inv .1) (omega arith) (c .count-at .ensures .0) (turn .check-grid .ensures) (c .before .if1 .left),
       search needs,
-      search needs,
     )
 
 accept-requires : tie.Need-accept-requires Inv-loop μ-loop
@@ -78,7 +76,7 @@ returns-2 c =
     let inv = c .before .before .loop .inv in
     record {
       report-is = end _ _ _ _ _ (c .before .loop-test .left) (c .accept .ensures) (inv .0);
-      laid = λ z. laid-end _ (inv .1) (c .before .loop-test .left) (inv .3);
+      laid = λ z. laid-end _ (inv .1) (c .before .loop-test .left) (inv .2);
     }
 
 pub check-grids-spec : {M : Type 1} → statement M

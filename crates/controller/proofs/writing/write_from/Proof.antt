@@ -1,6 +1,5 @@
 -- `controller::writing::write_from` meets its contract. Assumes nothing.
 use mathlib.Core.Path.{sym, _∙_}
-use Rattle.controller.specs.Parts.{storing}
 use Rattle.controller.proofs.Held.{held, not-held}
 use Rattle.controller.proofs.Writings.{none-held}
 use borrow.Author.Needs.{needs}
@@ -17,16 +16,16 @@ returns : tie.Need-returns
 returns c =
     let s = c .before .before .before .before .before .before .before in
     let a = s .args in
-    let state = storing (a .bytes .now) (a .n) in
     let read = c .before .before .before .before .stored-reading in
-    let w = none-held state (a .buffer .now) (a .start) (not-held state (s .pre) (read .ensures) (c .before .if1 .taken)) in
+    let none = not-held (a .bytes .now) (a .n) (s .pre) (read .ensures) (c .before .if1 .taken) in
+    let w = none-held (a .bytes .now) (a .n) (a .buffer .now) (a .start) none in
     (c .refuse .ensures ∙ sym (w .0), sym (w .1))
 
 write-stored-requires : tie.Need-write-stored-requires
 write-stored-requires c κs =
     let s = c .before .before .before .before .before .before .before in
     let read = c .before .before .before .before .stored-reading in
-    (s .pre, held (storing (s .args .bytes .now) (s .args .n)) (s .pre) (read .ensures) (search needs))
+    (s .pre, held (s .args .bytes .now) (s .args .n) (s .pre) (read .ensures) (search needs))
 
 same-length : tie.Need-same-length
 same-length c = search needs

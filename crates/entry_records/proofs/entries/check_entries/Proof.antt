@@ -19,11 +19,8 @@ abbrev μ-loop : tie.MeasureT-loop
 loop-holds : tie.Need-loop-holds Inv-loop μ-loop
 loop-holds c = (search needs, key-none _)
 
-mul-quick : tie.Need-mul-quick Inv-loop μ-loop
-mul-quick c = search needs
-
-add-quick : tie.Need-add-quick Inv-loop μ-loop
-add-quick c = search needs
+entry-at-requires : tie.Need-entry-at-requires Inv-loop μ-loop
+entry-at-requires c κs = search needs
 
 quick-requires : tie.Need-quick-requires Inv-loop μ-loop
 quick-requires c κs = search needs
@@ -32,7 +29,7 @@ check-from-requires : tie.Need-check-from-requires Inv-loop μ-loop
 check-from-requires c κs = search needs
 
 returns : tie.Need-returns Inv-loop μ-loop
-returns c = c .check-from .ensures ∙ c .before .before .before .before .loop .inv .0
+returns c = c .check-from .ensures ∙ c .before .before .before .before .before .loop .inv .0
 
 add-e : tie.Need-add-e Inv-loop μ-loop
 add-e c = search needs
@@ -43,7 +40,7 @@ loop-less c = search needs
 loop-again : tie.Need-loop-again Inv-loop μ-loop
 loop-again c =
     let yes′ = c .before .quick .ensures (c .if1 .left) in
-    let turn = c .before .before in
+    let turn = c .before .before .before in
     (go-on _ _ _ _ _ (turn .loop-test .taken) (yes′ .0) refl (turn .before .loop .inv .0), yes′ .1)
 
 accept-requires : tie.Need-accept-requires Inv-loop μ-loop
@@ -59,8 +56,7 @@ check-entries-spec =
     Inv-loop
     μ-loop
     loop-holds
-    mul-quick
-    add-quick
+    entry-at-requires
     quick-requires
     check-from-requires
     returns

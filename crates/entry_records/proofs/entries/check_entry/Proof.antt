@@ -4,6 +4,9 @@ use borrow.Author.Needs.{needs}
 use Rattle.entry_records.proofs.entries.check_entry.Statement.{statement}
 use Rattle.entry_records.proofs.entries.check_entry.Tie as tie
 
+marked-as-requires : tie.Need-marked-as-requires
+marked-as-requires c κs = search needs
+
 check-opened-requires : tie.Need-check-opened-requires
 check-opened-requires c κs = search needs
 
@@ -26,6 +29,7 @@ pub check-entry-spec : {M : Type 1} → statement M
 check-entry-spec =
     tie.close
     (tie.spec
+    marked-as-requires
     check-opened-requires
     returns
     key-at-requires

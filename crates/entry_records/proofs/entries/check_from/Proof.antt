@@ -20,11 +20,8 @@ abbrev μ-loop : tie.MeasureT-loop
 loop-holds : tie.Need-loop-holds Inv-loop μ-loop
 loop-holds c = search needs
 
-mul-o : tie.Need-mul-o Inv-loop μ-loop
-mul-o c = search needs
-
-add-o : tie.Need-add-o Inv-loop μ-loop
-add-o c = search needs
+entry-at-requires : tie.Need-entry-at-requires Inv-loop μ-loop
+entry-at-requires c κs = search needs
 
 check-entry-requires : tie.Need-check-entry-requires Inv-loop μ-loop
 check-entry-requires c κs = search needs
@@ -35,9 +32,9 @@ returns c = search stop
 key-at-requires : tie.Need-key-at-requires Inv-loop μ-loop
 key-at-requires c κs =
     let turn = c .before .before in
-    let whole = entry-within _ (turn .before .before .loop .e) (turn .check-entry .ensures) (c .if1 .left) in
-    let given = turn .before .before .before .before .pre in
-    omega (arith, given .0, given .1, given .2, turn .before .loop-test .taken)
+    let whole = entry-within _ (turn .before .before .before .loop .e) (turn .check-entry .ensures) (c .if1 .left) in
+    let given = turn .before .before .before .before .before .pre in
+    omega (arith, given .0, given .1, given .2, turn .before .entry-at .ensures, turn .before .before .loop-test .taken)
 
 add-above : tie.Need-add-above Inv-loop μ-loop
 add-above c = omega (arith, c .key-at .ensures .most)
@@ -51,7 +48,7 @@ loop-less c = search needs
 loop-again : tie.Need-loop-again Inv-loop μ-loop
 loop-again c =
     let turn = c .before .before .before in
-    (go-on _ _ _ _ _ (turn .before .loop-test .taken) (turn .check-entry .ensures) (c .before .if1 .left) (turn .before .before .loop .inv .0), key-next _ _ (c .key-at .ensures))
+    (go-on _ _ _ _ _ (turn .before .before .loop-test .taken) (turn .check-entry .ensures) (c .before .if1 .left) (turn .before .before .before .loop .inv .0), key-next _ _ (c .key-at .ensures))
 
 accept-requires : tie.Need-accept-requires Inv-loop μ-loop
 accept-requires c κs = search needs
@@ -66,8 +63,7 @@ check-from-spec =
     Inv-loop
     μ-loop
     loop-holds
-    mul-o
-    add-o
+    entry-at-requires
     check-entry-requires
     returns
     key-at-requires

@@ -15,8 +15,8 @@ returns c = λ some. absurd (some refl)
 key-at-requires : tie.Need-key-at-requires
 key-at-requires c κs = search needs
 
-marked-as-requires : tie.Need-marked-as-requires
-marked-as-requires c κs = search needs
+marked-within-requires : tie.Need-marked-within-requires
+marked-within-requires c κs = search needs
 
 entry-ok-requires : tie.Need-entry-ok-requires
 entry-ok-requires c κs = search needs
@@ -28,7 +28,7 @@ returns-2 : tie.Need-returns-2
 returns-2 c = λ some.
     let start = c .before .before .before .before .before .before in
     let key = c .before .before .before .key-at .ensures in
-    (entry-fine _ _ (start .pre .1) (omega arith) (c .before .before .marked-as .ensures) (c .before .entry-ok .ensures) (c .if2 .taken), key-next _ _ key)
+    (entry-fine _ _ (start .pre .1) (omega arith) (c .before .before .marked-within .ensures) (c .before .entry-ok .ensures) (c .if2 .taken), key-next _ _ key)
 
 returns-3 : tie.Need-returns-3
 returns-3 c = λ some. absurd (some refl)
@@ -40,7 +40,7 @@ quick-spec =
     add-if1
     returns
     key-at-requires
-    marked-as-requires
+    marked-within-requires
     entry-ok-requires
     add-result
     returns-2

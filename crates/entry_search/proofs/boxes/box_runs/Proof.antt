@@ -1,6 +1,6 @@
 -- `entry_search::boxes::box_runs` meets its contract. Assumes nothing.
 use native.Mathlib.Omega.{arith}
-use Rattle.entry_search.proofs.Ranged.{runs-are}
+use Rattle.entry_search.proofs.SuccessorRuns.{runs-are}
 use borrow.Author.Needs.{needs}
 use Rattle.entry_search.proofs.boxes.box_runs.Statement.{statement}
 use Rattle.entry_search.proofs.boxes.box_runs.Tie as tie

@@ -16,13 +16,13 @@ mul-t8 : tie.Need-mul-t8
 mul-t8 c = let p = c .before .before .before .pre in
     omega (arith, row-fits (c .next-mode-of .result) _ _ (rw (c .next-mode-of .ensures .0) (p .0 .entry _ (p .2) .next-mode)) (p .0 .header .modes-most) (p .1 .cells-most))
 
-limit-for-requires : tie.Need-limit-for-requires
-limit-for-requires c κs = search needs
+bound-for-requires : tie.Need-bound-for-requires
+bound-for-requires c κs = search needs
 
 returns : tie.Need-returns
 returns c = let p = c .before .before .before .before .pre in
-    (is-task _ _ _ _ _ _ (p .0) (p .1) (p .2) (c .before .next-mode-of .ensures .0) (c .before .before .rank-of .ensures .0) (c .limit-for .ensures), refl)
+    (is-task _ _ _ _ _ _ (p .0) (p .1) (p .2) (c .before .next-mode-of .ensures .0) (c .before .before .rank-of .ensures .0) (c .bound-for .ensures), refl)
 
 pub task-of-spec : {M : Type 1} → statement M
 task-of-spec =
-    tie.close (tie.spec rank-of-requires next-mode-of-requires mul-t8 limit-for-requires returns)
+    tie.close (tie.spec rank-of-requires next-mode-of-requires mul-t8 bound-for-requires returns)

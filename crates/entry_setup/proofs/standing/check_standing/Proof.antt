@@ -1,12 +1,12 @@
 -- `entry_search::standing::check_standing` meets its contract. Assumes nothing.
 use Rattle.octets.proofs.Cases.{cases}
-use Rattle.judging.specs.Judging.{standingFault}
+use Rattle.judging.specs.EntryTests.{standingFault}
 use borrow.Author.Needs.{needs}
 use Rattle.entry_setup.proofs.standing.check_standing.Statement.{statement}
 use Rattle.entry_setup.proofs.standing.check_standing.Tie as tie
 
-limits-of-requires : tie.Need-limits-of-requires
-limits-of-requires c κs = search needs
+cell-fits-requires : tie.Need-cell-fits-requires
+cell-fits-requires c κs = search needs
 
 report-requires : tie.Need-report-requires
 report-requires c κs = search needs
@@ -36,7 +36,7 @@ pub check-standing-spec : {M : Type 1} → statement M
 check-standing-spec =
     tie.close
     (tie.spec
-    limits-of-requires
+    cell-fits-requires
     report-requires
     returns
     rank-fits-requires

@@ -6,20 +6,20 @@ use borrow.Author.Needs.{needs}
 use lib.ListN.{length}
 use Rattle.certificate.specs.Layout.{linksOf}
 use Rattle.supply.specs.Supply.{at}
-use Rattle.images.specs.Ends.{limitBy, Side}
-use Rattle.screening.proofs.Bounds.{roads-own, links-most}
+use Rattle.images.specs.Ends.{EndsSoFar}
+use Rattle.screening.proofs.Bounds.{network-own, links-most}
 use Rattle.images.proofs.Caps.{queue-most}
-use Rattle.images.proofs.Sides.{side-none, both-sides}
+use Rattle.images.proofs.EndsLinkByLink.{side-none, both-sides}
 use Rattle.images.proofs.ends.ends_of.Statement.{statement}
 use Rattle.images.proofs.ends.ends_of.Tie as tie
 
 abbrev Inv-loop : tie.InvT-loop
-Inv-loop s start links byte first lower upper lows₀ highs₀ low₀ high₀ l₀ lows highs low high l =
-    (l ≤ links) × Side s (limitBy s byte) (at lower) (at upper) first l low × Side s (limitBy s byte) (at upper) (at lower) first l high
+Inv-loop s start links limits first lower upper lows₀ highs₀ low₀ high₀ l₀ lows highs low high l =
+    (l ≤ links) × EndsSoFar s (at limits) (at lower) (at upper) first l low × EndsSoFar s (at limits) (at upper) (at lower) first l high
     × (length lows ≡ 32) × (length highs ≡ 32)
 
 abbrev μ-loop : tie.MeasureT-loop
-μ-loop s start links byte first lower upper lows₀ highs₀ low₀ high₀ l₀ lows highs low high l = links - l
+μ-loop s start links limits first lower upper lows₀ highs₀ low₀ high₀ l₀ lows highs low high l = links - l
 
 scale-requires : tie.Need-scale-requires Inv-loop μ-loop
 scale-requires c κs = let start = c .before .before in (links-most (start .pre .0), λ l h. queue-most (start .pre .0 .readable) (start .pre .2) l (omega arith), refl)
@@ -42,7 +42,7 @@ send-requires : tie.Need-send-requires Inv-loop μ-loop
 send-requires c κs =
     let start = c .before .before .before .before .before .before .before .before .before .before .before in
     let inv = c .before .before .before .before .before .loop .inv in
-    (roads-own (start .pre .0), start .pre .1, start .pre .2, start .pre .3, omega arith, inv .1, inv .2, inv .3, inv .4)
+    (network-own (start .pre .0), start .pre .1, start .pre .2, start .pre .3, omega arith, start .pre .4, inv .1, inv .2, inv .3, inv .4)
 
 add-l : tie.Need-add-l Inv-loop μ-loop
 add-l c = search needs

@@ -5,7 +5,7 @@ use native.Mathlib.Omega.{arith}
 use borrow.Author.Needs.{needs}
 use lib.ListN.{length}
 use Rattle.listing_text.specs.Lines.{entryLines}
-use Rattle.listing.proofs.Sending.{length-accepted}
+use Rattle.listing_text.proofs.Listings.{length-accepted}
 use Rattle.listing.proofs.render.text_length.Statement.{statement}
 use Rattle.listing.proofs.render.text_length.Tie as tie
 

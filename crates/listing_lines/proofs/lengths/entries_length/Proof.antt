@@ -4,7 +4,7 @@ use Prim.Native.Nat.{_*_, _-_, _≤_}
 use native.Mathlib.Omega.{arith}
 use lib.ListN.{length}
 use Rattle.listing_text.specs.Lines.{entryLines}
-use Rattle.listing_lines.proofs.LineParts.{length-more}
+use Rattle.listing_text.proofs.LineLengths.{length-more}
 use Rattle.listing_lines.proofs.lengths.entries_length.Statement.{statement}
 use Rattle.listing_lines.proofs.lengths.entries_length.Tie as tie
 

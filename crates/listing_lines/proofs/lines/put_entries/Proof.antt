@@ -4,9 +4,10 @@ use Prim.Native.Nat.{_+_, _-_, _≤_}
 use native.Mathlib.Omega.{arith}
 use lib.ListN.{length}
 use Rattle.listing_text.specs.Lines.{entryLines}
-use Rattle.text.specs.Place.{Put}
+use Rattle.text.specs.TextPut.{Put}
 use Rattle.text.proofs.Placing.{put-none, then}
-use Rattle.listing_lines.proofs.LineParts.{lines-more, length-more, lines-grow}
+use Rattle.listing_text.proofs.LineLengths.{lines-more, length-more}
+use Rattle.listing_lines.proofs.LineParts.{lines-grow}
 use Rattle.listing_lines.proofs.lines.put_entries.Statement.{statement}
 use Rattle.listing_lines.proofs.lines.put_entries.Tie as tie
 

@@ -4,11 +4,11 @@ use borrow.Author.Needs.{needs}
 use Rattle.road_records.proofs.links.check_link.Statement.{statement}
 use Rattle.road_records.proofs.links.check_link.Tie as tie
 
-mul-o : tie.Need-mul-o
-mul-o c = search needs
+link-at-requires : tie.Need-link-at-requires
+link-at-requires c κs = search needs
 
-add-o : tie.Need-add-o
-add-o c = search needs
+marked-as-requires : tie.Need-marked-as-requires
+marked-as-requires c κs = search needs
 
 check-opened-requires : tie.Need-check-opened-requires
 check-opened-requires c κs = search needs
@@ -21,9 +21,9 @@ record-result-requires c κs = search needs
 
 returns : tie.Need-returns
 unfolding linkFault
-returns c = rw (← c .before .before .check-opened .ensures, ← c .before .link-ok .ensures) (c .record-result .ensures)
+returns c = rw (← c .before .before .before .before .link-at .ensures .0, ← c .before .before .before .marked-as .ensures, ← c .before .before .check-opened .ensures, ← c .before .link-ok .ensures) (c .record-result .ensures)
 
 pub check-link-spec : {M : Type 1} → statement M
 check-link-spec =
     tie.close
-    (tie.spec mul-o add-o check-opened-requires link-ok-requires record-result-requires returns)
+    (tie.spec link-at-requires marked-as-requires check-opened-requires link-ok-requires record-result-requires returns)

@@ -4,11 +4,11 @@ use borrow.Author.Needs.{needs}
 use Rattle.road_records.proofs.signals.check_signal.Statement.{statement}
 use Rattle.road_records.proofs.signals.check_signal.Tie as tie
 
-mul-o : tie.Need-mul-o
-mul-o c = search needs
+signal-at-requires : tie.Need-signal-at-requires
+signal-at-requires c κs = search needs
 
-add-o : tie.Need-add-o
-add-o c = search needs
+marked-as-requires : tie.Need-marked-as-requires
+marked-as-requires c κs = search needs
 
 check-opened-requires : tie.Need-check-opened-requires
 check-opened-requires c κs = search needs
@@ -25,15 +25,15 @@ record-result-requires c κs = search needs
 returns : tie.Need-returns
 unfolding signalFault signalOk
 returns c =
-    let pre = c .before .before .before .before .before .pre in
-    rw (← c .before .before .green-byte-of .ensures .0, ← pre .4, ← c .before .power .ensures, ← pre .2, ← c .before .before .before .check-opened .ensures) (c .record-result .ensures)
+    let pre = c .before .before .before .before .before .before .before .pre in
+    rw (← c .before .before .green-byte-of .ensures .0, ← pre .4, ← c .before .power .ensures, ← pre .2, ← c .before .before .before .before .before .signal-at .ensures .0, ← c .before .before .before .before .marked-as .ensures, ← c .before .before .before .check-opened .ensures) (c .record-result .ensures)
 
 pub check-signal-spec : {M : Type 1} → statement M
 check-signal-spec =
     tie.close
     (tie.spec
-    mul-o
-    add-o
+    signal-at-requires
+    marked-as-requires
     check-opened-requires
     green-byte-of-requires
     power-requires

@@ -3,21 +3,17 @@ use borrow.Author.Needs.{needs}
 use Rattle.road_records.proofs.signals.green_byte_of.Statement.{statement}
 use Rattle.road_records.proofs.signals.green_byte_of.Tie as tie
 
-mul-byte-at : tie.Need-mul-byte-at
-mul-byte-at c = search needs
+signal-at-requires : tie.Need-signal-at-requires
+signal-at-requires c κs = search needs
 
 add-byte-at : tie.Need-add-byte-at
 add-byte-at c = search needs
-
-add-byte-at-2 : tie.Need-add-byte-at-2
-add-byte-at-2 c = search needs
 
 byte-at-requires : tie.Need-byte-at-requires
 byte-at-requires c κs = search needs
 
 returns : tie.Need-returns
-returns c = (rw (← c .before .before .pre .2) (c .byte-at .ensures .0), search needs)
+returns c = (rw (← c .before .before .before .pre .2, ← c .before .signal-at .ensures .0) (c .byte-at .ensures .0), search needs)
 
 pub green-byte-of-spec : {M : Type 1} → statement M
-green-byte-of-spec =
-    tie.close (tie.spec mul-byte-at add-byte-at add-byte-at-2 byte-at-requires returns)
+green-byte-of-spec = tie.close (tie.spec signal-at-requires add-byte-at byte-at-requires returns)

@@ -12,7 +12,7 @@ use Rattle.certificate.specs.Checks.{result, fine, need, firstFrom}
 use Rattle.octets.proofs.Cases.{go-on, stop, end}
 use Rattle.network.specs.Network.{networkOf}
 use Rattle.network.specs.Conditions.{pullSum, pullFault, signalPullsFault}
-use Rattle.screening.proofs.Bounds.{roads-links, links-most}
+use Rattle.screening.proofs.Bounds.{network-links, links-most}
 use Rattle.screening.proofs.conditions.check_signal.Statement.{statement}
 use Rattle.screening.proofs.conditions.check_signal.Tie as tie
 
@@ -23,7 +23,7 @@ abbrev μ-loop : tie.MeasureT-loop
 μ-loop s start turns links byte g sums l₀ l = links - l
 
 pull-sums-requires : tie.Need-pull-sums-requires Inv-loop μ-loop
-pull-sums-requires c κs = roads-links (c .before .pre .0)
+pull-sums-requires c κs = network-links (c .before .pre .0)
 
 loop-holds : tie.Need-loop-holds Inv-loop μ-loop
 unfolding signalPullsFault

@@ -4,11 +4,11 @@ use borrow.Author.Needs.{needs}
 use Rattle.turn_records.proofs.turns.check_turn.Statement.{statement}
 use Rattle.turn_records.proofs.turns.check_turn.Tie as tie
 
-mul-o : tie.Need-mul-o
-mul-o c = search needs
+turn-at-requires : tie.Need-turn-at-requires
+turn-at-requires c κs = search needs
 
-add-o : tie.Need-add-o
-add-o c = search needs
+marked-as-requires : tie.Need-marked-as-requires
+marked-as-requires c κs = search needs
 
 check-opened-requires : tie.Need-check-opened-requires
 check-opened-requires c κs = search needs
@@ -21,9 +21,9 @@ record-result-requires c κs = search needs
 
 returns : tie.Need-returns
 unfolding turnFault
-returns c = rw (← c .before .before .before .before .pre .2, ← c .before .before .check-opened .ensures, ← c .before .turn-ok .ensures) (c .record-result .ensures)
+returns c = rw (← c .before .before .before .before .before .before .pre .2, ← c .before .before .before .before .turn-at .ensures .0, ← c .before .before .before .marked-as .ensures, ← c .before .before .check-opened .ensures, ← c .before .turn-ok .ensures) (c .record-result .ensures)
 
 pub check-turn-spec : {M : Type 1} → statement M
 check-turn-spec =
     tie.close
-    (tie.spec mul-o add-o check-opened-requires turn-ok-requires record-result-requires returns)
+    (tie.spec turn-at-requires marked-as-requires check-opened-requires turn-ok-requires record-result-requires returns)

@@ -4,7 +4,7 @@ use mathlib.Core.Path.{_≡_}
 use borrow.Author.Needs.{needs}
 use Rattle.certificate.specs.Checks.{firstFrom}
 use Rattle.certificate.specs.Records.{turnFault}
-use Rattle.turn_records.specs.Carried.{SharesBefore}
+use Rattle.turn_records.specs.ShareTotals.{SharesBefore}
 use Rattle.octets.proofs.Cases.{go-on, stop, end}
 use Rattle.turn_records.proofs.TurnTotals.{shares-none, shares-next}
 use Rattle.turn_records.proofs.turns.check_turns.Statement.{statement}

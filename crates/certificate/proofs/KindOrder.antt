@@ -1,0 +1,90 @@
+-- The kinds of records by their order and by the refusal of their fields; what is wrong with a record excludes what else might be. Assumes nothing.
+use Prim.Native.Nat.{ℕ, zero, suc, _-_, _≤_, _<_}
+use mathlib.Core.List.{List}
+use mathlib.Core.Path.{_≡_, refl, sym, ap, _∙_}
+use mathlib.Core.Logic.{inl, inr}
+use native.Mathlib.Omega.{arith}
+use lib.Dec.{eqb}
+use Rattle.certificate.specs.Loops.{pick}
+use Rattle.certificate.specs.Laws.{ReadingNumber, up-to-nine}
+use Rattle.certificate.specs.Due.{Kind, HD, LK, TN, SG, GR, AR, EN, ZZ, orderOf, fieldNumber, Present, Marked, Whole, Line, TooShort, WrongMark}
+
+-- the kind of a place in the order, and the place of the kind with a refusal
+unfoldable pub kindAt : ℕ → Kind
+kindAt zero = HD
+kindAt (suc zero) = LK
+kindAt (suc (suc zero)) = TN
+kindAt (suc (suc (suc zero))) = SG
+kindAt (suc (suc (suc (suc zero)))) = GR
+kindAt (suc (suc (suc (suc (suc zero))))) = AR
+kindAt (suc (suc (suc (suc (suc (suc zero)))))) = EN
+kindAt (suc (suc (suc (suc (suc (suc (suc n))))))) = ZZ
+
+pub numberOrder : ℕ → ℕ
+numberOrder n = pick (eqb n 2) 7 (n - 3)
+
+pub record Placed (k : Kind) : Type 0 where
+  pub at : kindAt (orderOf k) ≡ k
+  pub below : orderOf k < 8
+  pub least : 2 ≤ fieldNumber k
+  pub number : ReadingNumber (fieldNumber k)
+  pub by-number : numberOrder (fieldNumber k) ≡ orderOf k
+
+pub placed : (k : Kind) → Placed k
+unfolding kindAt numberOrder
+placed HD = record { at = refl; below = omega arith; least = omega arith; number = up-to-nine (omega arith); by-number = refl }
+placed LK = record { at = refl; below = omega arith; least = omega arith; number = up-to-nine (omega arith); by-number = refl }
+placed TN = record { at = refl; below = omega arith; least = omega arith; number = up-to-nine (omega arith); by-number = refl }
+placed SG = record { at = refl; below = omega arith; least = omega arith; number = up-to-nine (omega arith); by-number = refl }
+placed GR = record { at = refl; below = omega arith; least = omega arith; number = up-to-nine (omega arith); by-number = refl }
+placed AR = record { at = refl; below = omega arith; least = omega arith; number = up-to-nine (omega arith); by-number = refl }
+placed EN = record { at = refl; below = omega arith; least = omega arith; number = up-to-nine (omega arith); by-number = refl }
+placed ZZ = record { at = refl; below = omega arith; least = omega arith; number = up-to-nine (omega arith); by-number = refl }
+
+pub order-at : (n : ℕ) → n < 8 → orderOf (kindAt n) ≡ n
+unfolding kindAt
+order-at zero lt = refl
+order-at (suc zero) lt = refl
+order-at (suc (suc zero)) lt = refl
+order-at (suc (suc (suc zero))) lt = refl
+order-at (suc (suc (suc (suc zero)))) lt = refl
+order-at (suc (suc (suc (suc (suc zero))))) lt = refl
+order-at (suc (suc (suc (suc (suc (suc zero)))))) lt = refl
+order-at (suc (suc (suc (suc (suc (suc (suc n))))))) lt = omega arith
+
+-- a kind is told by its order, and by its refusal
+pub same-order : (j k : Kind) → orderOf j ≡ orderOf k → j ≡ k
+same-order j k e = sym (placed j .at) ∙ ap kindAt e ∙ placed k .at
+
+pub same-number : (j k : Kind) → fieldNumber j ≡ fieldNumber k → j ≡ k
+same-number j k e = same-order j k (sym (placed j .by-number) ∙ ap numberOrder e ∙ placed k .by-number)
+
+-- a whole record has its mark, and one as its line says the right one
+whole-present : (s : List ℕ) (k : Kind) (i : ℕ) → Whole s k i → Present s k i
+whole-present s HD i whole = omega arith
+whole-present s LK i whole = omega arith
+whole-present s TN i whole = omega arith
+whole-present s SG i whole = omega arith
+whole-present s GR i whole = omega (arith, whole .0)
+whole-present s AR i whole = omega arith
+whole-present s EN i whole = omega arith
+whole-present s ZZ i whole = omega arith
+
+pub line-marked : (s : List ℕ) (k : Kind) (i : ℕ) → Line s k i → Marked s k i
+line-marked s HD i line = line .mark
+line-marked s LK i line = line .mark
+line-marked s TN i line = line .0 .mark
+line-marked s SG i line = line .mark
+line-marked s GR i line = line .mark
+line-marked s AR i line = line .mark
+line-marked s EN i line = line .0 .mark
+line-marked s ZZ i line = line .0
+
+-- a record that is too short is not whole, and is not one with a wrong mark
+pub not-whole : (s : List ℕ) (k : Kind) (i : ℕ) → TooShort s k i → Whole s k i → ⊥
+not-whole s k i (inl absent) whole = absent (whole-present s k i whole)
+not-whole s k i (inr (mark, cut)) whole = cut whole
+
+pub not-wrong : (s : List ℕ) (k : Kind) (i : ℕ) → TooShort s k i → WrongMark s k i → ⊥
+not-wrong s k i (inl absent) wrong = absent (wrong .0)
+not-wrong s k i (inr (mark, cut)) wrong = wrong .1 mark

@@ -1,0 +1,106 @@
+-- A readable certificate is the fields of the layout, one after another. Assumes nothing.
+use Prim.Native.Nat.{ℕ, zero, suc, _+_, _*_, _-_, _<_}
+use mathlib.Core.List.{List, [], _∷_, _++_}
+use mathlib.Core.Path.{_≡_, refl, ap}
+use native.Mathlib.Nat.{mul-suc}
+use native.Mathlib.Omega.{arith}
+use lib.ListN.{length}
+use Rattle.certificate.specs.Octets.{byteAt, u16At}
+use Rattle.certificate.specs.Layout.{linksOf, turnsOf, signalsOf, boxesOf, entriesOf, linkAt, turnsStart, turnAt, signalsStart, signalAt, gridStart, gridAt, intervalsOf, cutOf, arrivalsStart, arrivalAt, lowOf, highOf, entriesStart, entryAt, endAt}
+use Rattle.certificate.specs.Facts.{Readable}
+use Rattle.certificate.specs.Due.{LK, TN, SG, GR, AR, EN}
+use Rattle.certificate.specs.Fields.{Field, byte, u16, Stand, each, fieldsOf, recordsOf}
+use Rattle.certificate.specs.Laws.{FieldsStand}
+use Rattle.certificate.proofs.KindOrder.{kindAt}
+
+module _ (s : List ℕ) where
+  -- what stands at a place, written in another way
+  byte-at : {o p : ℕ} → o ≡ p → byteAt s o ≡ byteAt s p
+  byte-at e = ap (byteAt s) e
+
+  u16-at : {o p : ℕ} → o ≡ p → u16At s o ≡ u16At s p
+  u16-at e = ap (u16At s) e
+
+  -- fields after fields
+  joined : (fields more : List Field) (o m e : ℕ) → Stand s o fields m → Stand s m more e → Stand s o (fields ++ more) e
+  joined [] more o m e h k = rw h k
+  joined (byte v ∷ fields) more o m e h k = (h .0, joined fields more (o + 1) m e (h .1) k)
+  joined (u16 v ∷ fields) more o m e h k = (h .0, joined fields more (o + 2) m e (h .1) k)
+
+  in-turn : (f : ℕ → List Field) (at : ℕ → ℕ) (n : ℕ) → ((i : ℕ) → i < n → Stand s (at i) (f i) (at (suc i))) → Stand s (at 0) (each n f) (at n)
+  in-turn f at zero h = refl
+  in-turn f at (suc n) h = joined (each n f) (f n) (at 0) (at n) (at (suc n)) (in-turn f at n (λ i lt. h i (omega arith))) (h n (omega arith))
+
+  moved : (fields : List Field) {o p e f : ℕ} → o ≡ p → e ≡ f → Stand s p fields f → Stand s o fields e
+  moved fields p q h = rw (p, q) h
+
+  module _ (R : Readable s) where
+    -- each record, from its start to where the next one starts
+    link-stands : (l : ℕ) → l < linksOf s → Stand s (linkAt l) (fieldsOf s LK l) (linkAt (suc l))
+    link-stands l lt =
+        let m = R .link l lt .mark in
+        (m .first, (m .second, (byte-at (omega arith), (byte-at (omega arith), (u16-at (omega arith), (u16-at (omega arith), (u16-at (omega arith), (u16-at (omega arith), omega arith))))))))
+
+    turn-stands : (t : ℕ) → t < turnsOf s → Stand s (turnAt s t) (fieldsOf s TN t) (turnAt s (suc t))
+    turn-stands t lt =
+        let m = R .turn t lt .mark in
+        (m .first, (m .second, (byte-at (omega arith), (byte-at (omega arith), (byte-at (omega arith), (u16-at (omega arith), omega arith))))))
+
+    signal-stands : (g : ℕ) → g < signalsOf s → Stand s (signalAt s g) (fieldsOf s SG g) (signalAt s (suc g))
+    signal-stands g lt = let m = R .signal g lt .mark in (m .first, (m .second, (byte-at (omega arith), omega arith)))
+
+    grid-stands : (l : ℕ) → l < linksOf s → Stand s (gridAt s l) (fieldsOf s GR l) (gridAt s (suc l))
+    unfolding gridAt
+    grid-stands l lt =
+        let m = R .grid l lt .mark in
+        (m .first, (m .second, (byte-at (omega arith), moved (each (intervalsOf s l - 1) cut) (omega arith) (omega (arith, R .grid l lt .count-least)) (in-turn cut at (intervalsOf s l - 1) (λ i h. (u16-at (omega arith), omega arith))))))
+      where
+        cut : ℕ → List Field
+        cut i = u16 (cutOf s l i) ∷ []
+
+        at : ℕ → ℕ
+        at i = gridAt s l + 3 + 2 * i
+
+    box-stands : (b : ℕ) → b < boxesOf s → Stand s (arrivalAt s b) (fieldsOf s AR b) (arrivalAt s (suc b))
+    box-stands b lt =
+        let m = R .box b lt .mark in
+        (m .first, (m .second, moved (each (linksOf s) ends) (omega arith) (rw mul-suc (omega arith)) (in-turn ends at (linksOf s) (λ l h. (u16-at (omega arith), (u16-at (omega arith), omega arith))))))
+      where
+        ends : ℕ → List Field
+        ends l = u16 (lowOf s b l) ∷ u16 (highOf s b l) ∷ []
+
+        at : ℕ → ℕ
+        at l = arrivalAt s b + 2 + 4 * l
+
+    entry-stands : (e : ℕ) → e < entriesOf s → Stand s (entryAt s e) (fieldsOf s EN e) (entryAt s (suc e))
+    entry-stands e lt =
+        let m = R .entry e lt .mark in
+        (m .first, (m .second, (u16-at (omega arith), (byte-at (omega arith), (byte-at (omega arith), (byte-at (omega arith), (u16-at (omega arith), omega arith)))))))
+
+-- where each kind starts, and the end
+startOf : List ℕ → ℕ → ℕ
+startOf s zero = 0
+startOf s (suc zero) = linkAt 0
+startOf s (suc (suc zero)) = turnsStart s
+startOf s (suc (suc (suc zero))) = signalsStart s
+startOf s (suc (suc (suc (suc zero)))) = gridStart s
+startOf s (suc (suc (suc (suc (suc zero))))) = arrivalsStart s
+startOf s (suc (suc (suc (suc (suc (suc zero)))))) = entriesStart s
+startOf s (suc (suc (suc (suc (suc (suc (suc zero))))))) = endAt s
+startOf s (suc (suc (suc (suc (suc (suc (suc (suc n)))))))) = length s
+
+kind-stands : (s : List ℕ) → Readable s → (n : ℕ) → n < 8 → Stand s (startOf s n) (recordsOf s (kindAt n)) (startOf s (suc n))
+unfolding startOf kindAt turnsStart signalsStart gridStart gridAt arrivalsStart entriesStart endAt
+kind-stands s R zero lt = let m = R .header .mark in (m .first, (m .second, (refl, (refl, (refl, (refl, (refl, (refl, refl))))))))
+kind-stands s R (suc zero) lt = in-turn s (fieldsOf s LK) linkAt (linksOf s) (link-stands s R)
+kind-stands s R (suc (suc zero)) lt = moved s (recordsOf s TN) (omega arith) refl (in-turn s (fieldsOf s TN) (turnAt s) (turnsOf s) (turn-stands s R))
+kind-stands s R (suc (suc (suc zero))) lt = moved s (recordsOf s SG) (omega arith) refl (in-turn s (fieldsOf s SG) (signalAt s) (signalsOf s) (signal-stands s R))
+kind-stands s R (suc (suc (suc (suc zero)))) lt = in-turn s (fieldsOf s GR) (gridAt s) (linksOf s) (grid-stands s R)
+kind-stands s R (suc (suc (suc (suc (suc zero))))) lt = moved s (recordsOf s AR) (omega arith) refl (in-turn s (fieldsOf s AR) (arrivalAt s) (boxesOf s) (box-stands s R))
+kind-stands s R (suc (suc (suc (suc (suc (suc zero)))))) lt = moved s (recordsOf s EN) (omega arith) refl (in-turn s (fieldsOf s EN) (entryAt s) (entriesOf s) (entry-stands s R))
+kind-stands s R (suc (suc (suc (suc (suc (suc (suc zero))))))) lt = (R .end-mark .first, (R .end-mark .second, omega (arith, R .whole)))
+kind-stands s R (suc (suc (suc (suc (suc (suc (suc (suc n)))))))) lt = absurd (omega arith)
+
+pub fields-stand : FieldsStand
+unfolding startOf kindAt
+fields-stand s R = in-turn s (λ n. recordsOf s (kindAt n)) (startOf s) 8 (kind-stands s R)

@@ -1,0 +1,119 @@
+-- The records in the order in which reading takes them, and what may be wrong with the one that is due, in plain terms.
+use Prim.Native.Nat.{ℕ, _+_, _*_, _≤_, _<_}
+use mathlib.Core.List.{List}
+use mathlib.Core.Logic.{_⊎_}
+use mathlib.Core.Path.{_≡_}
+use lib.ListN.{length}
+use Rattle.certificate.specs.Layout.{maxShare, maxIntervals, maxCells, headerSize, linkSize, turnSize, signalSize, gridSize, arrivalSize, entrySize, endSize, linksOf, turnsOf, signalsOf, boxesOf, entriesOf, linkAt, turnAt, fromOf, toOf, signalAt, gridAt, intervalsOf, productOf, arrivalAt, entryAt, cellOf, modeOf, endAt}
+use Rattle.certificate.specs.Records.{shareTotal}
+use Rattle.certificate.specs.Facts.{Mark, HeaderFacts, LinkFacts, PairBelow, TurnFacts, SignalFacts, GridFacts, BoxFacts, EntryFacts}
+
+-- The kinds of records.
+pub data Kind : Type 0 where
+  HD LK TN SG GR AR EN ZZ : Kind
+
+-- their order
+abbrev pub orderOf : Kind → ℕ
+orderOf HD = 0
+orderOf LK = 1
+orderOf TN = 2
+orderOf SG = 3
+orderOf GR = 4
+orderOf AR = 5
+orderOf EN = 6
+orderOf ZZ = 7
+
+-- the refusal of a field that breaks its line (ZZ has no field: 2 is a byte after it)
+abbrev pub fieldNumber : Kind → ℕ
+fieldNumber HD = 3
+fieldNumber LK = 4
+fieldNumber TN = 5
+fieldNumber SG = 6
+fieldNumber GR = 7
+fieldNumber AR = 8
+fieldNumber EN = 9
+fieldNumber ZZ = 2
+
+-- how many records of a kind there are
+abbrev pub manyOf : List ℕ → Kind → ℕ
+manyOf s HD = 1
+manyOf s LK = linksOf s
+manyOf s TN = turnsOf s
+manyOf s SG = signalsOf s
+manyOf s GR = linksOf s
+manyOf s AR = boxesOf s
+manyOf s EN = entriesOf s
+manyOf s ZZ = 1
+
+-- where record i of a kind starts
+abbrev pub recordAt : List ℕ → Kind → ℕ → ℕ
+recordAt s HD i = 0
+recordAt s LK i = linkAt i
+recordAt s TN i = turnAt s i
+recordAt s SG i = signalAt s i
+recordAt s GR i = gridAt s i
+recordAt s AR i = arrivalAt s i
+recordAt s EN i = entryAt s i
+recordAt s ZZ i = endAt s
+
+-- its mark is present
+abbrev pub Present : List ℕ → Kind → ℕ → Type 0
+Present s k i = recordAt s k i + 2 ≤ length s
+
+-- its mark is right
+abbrev pub Marked : List ℕ → Kind → ℕ → Type 0
+Marked s HD i = Mark s 0 72 68
+Marked s LK i = Mark s (linkAt i) 76 75
+Marked s TN i = Mark s (turnAt s i) 84 78
+Marked s SG i = Mark s (signalAt s i) 83 71
+Marked s GR i = Mark s (gridAt s i) 71 82
+Marked s AR i = Mark s (arrivalAt s i) 65 82
+Marked s EN i = Mark s (entryAt s i) 69 78
+Marked s ZZ i = Mark s (endAt s) 90 90
+
+-- a GR's count, with the product so far
+pub record CountFacts (s : List ℕ) (l : ℕ) : Type 0 where
+  pub least : 1 ≤ intervalsOf s l
+  pub most : intervalsOf s l ≤ maxIntervals
+  pub product : productOf s l * intervalsOf s l ≤ maxCells
+
+-- it is whole. The cuts of a GR must be present only where its count passes.
+abbrev pub Whole : List ℕ → Kind → ℕ → Type 0
+Whole s HD i = headerSize ≤ length s
+Whole s LK i = linkAt i + linkSize ≤ length s
+Whole s TN i = turnAt s i + turnSize ≤ length s
+Whole s SG i = signalAt s i + signalSize ≤ length s
+Whole s GR i = (gridAt s i + 3 ≤ length s) × (CountFacts s i → gridAt s i + gridSize (intervalsOf s i) ≤ length s)
+Whole s AR i = arrivalAt s i + arrivalSize (linksOf s) ≤ length s
+Whole s EN i = entryAt s i + entrySize ≤ length s
+Whole s ZZ i = endAt s + endSize ≤ length s
+
+-- the pair (f, g) of number i is above that of the one before it
+abbrev pub Above : (ℕ → ℕ) → (ℕ → ℕ) → ℕ → Type 0
+Above f g i = (h : ℕ) → h + 1 ≡ i → PairBelow (f h) (g h) (f i) (g i)
+
+-- it is as its line of document 01 says, the mark included
+abbrev pub Line : List ℕ → Kind → ℕ → Type 0
+Line s HD i = HeaderFacts s
+Line s LK i = LinkFacts s i
+Line s TN i = TurnFacts s i × Above (fromOf s) (toOf s) i × (shareTotal s i ≤ maxShare)
+Line s SG i = SignalFacts s i
+Line s GR i = GridFacts s i
+Line s AR i = BoxFacts s i
+Line s EN i = EntryFacts s i × Above (cellOf s) (modeOf s) i
+Line s ZZ i = Mark s (endAt s) 90 90 × (length s ≡ endAt s + endSize)
+
+-- record i of kind k is due: it is one of those that HD counts, and every record before it is whole and as its line says
+pub record Due (s : List ℕ) (k : Kind) (i : ℕ) : Type 0 where
+  pub counted : i < manyOf s k
+  pub before : (j : Kind) (h : ℕ) → h < manyOf s j → PairBelow (orderOf j) h (orderOf k) i → Whole s j h × Line s j h
+
+-- What may be wrong with it, in the order of the tests: mark present, mark right, record whole, fields.
+abbrev pub TooShort : List ℕ → Kind → ℕ → Type 0
+TooShort s k i = (Present s k i → ⊥) ⊎ (Marked s k i × (Whole s k i → ⊥))
+
+abbrev pub WrongMark : List ℕ → Kind → ℕ → Type 0
+WrongMark s k i = Present s k i × (Marked s k i → ⊥)
+
+abbrev pub BrokenLine : List ℕ → Kind → ℕ → Type 0
+BrokenLine s k i = Marked s k i × Whole s k i × (Line s k i → ⊥)
