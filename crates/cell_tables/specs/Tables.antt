@@ -5,7 +5,7 @@ use mathlib.Core.Path.{_≡_}
 use lib.ListN.{getD}
 use lib.Dec.{ltb}
 use Rattle.certificate.specs.Loops.{pick}
-use Rattle.certificate.specs.Layout.{maxLinks, linksOf, capOf, gridAt, intervalsOf, cellsOf}
+use Rattle.certificate.specs.Layout.{maxIntervals, maxLinks, linksOf, capOf, gridAt, intervalsOf, cellsOf}
 use Rattle.certificate.specs.Facts.{Readable}
 use Rattle.grid.specs.Intervals.{lowerEdge, upperEdge}
 use Rattle.grid.specs.Cells.{intervalIn}
@@ -19,6 +19,10 @@ PlacesOf s a = Holds (linksOf s) (gridAt s) a
 abbrev pub CountsOf : List ℕ → List ℕ → Type 0
 CountsOf s a = Holds (linksOf s) (intervalsOf s) a
 
+-- the edges of a link: one more than its intervals; the table has a row of them for each link
+abbrev pub edgeRow : ℕ
+edgeRow = maxIntervals + 1
+
 -- edge i of link l: 0, the cuts, and cap
 unfoldable pub edgeOf : List ℕ → ℕ → ℕ → ℕ
 edgeOf s l zero = 0
@@ -26,8 +30,8 @@ edgeOf s l (suc i) = upperEdge s l i
 
 -- sixteen edges a link: interval i lies between edges i and i + 1
 pub record EdgesOf (s a : List ℕ) : Type 0 where
-  pub lower : (l i : ℕ) → l < linksOf s → i < intervalsOf s l → getD a (16 * l + i) 0 ≡ lowerEdge s l i
-  pub upper : (l i : ℕ) → l < linksOf s → i < intervalsOf s l → getD a (16 * l + i + 1) 0 ≡ upperEdge s l i
+  pub lower : (l i : ℕ) → l < linksOf s → i < intervalsOf s l → getD a (edgeRow * l + i) 0 ≡ lowerEdge s l i
+  pub upper : (l i : ℕ) → l < linksOf s → i < intervalsOf s l → getD a (edgeRow * l + i + 1) 0 ≡ upperEdge s l i
 
 -- the product of the counts of the last k links
 unfoldable pub productOfLast : List ℕ → ℕ → ℕ

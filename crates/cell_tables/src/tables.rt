@@ -3,15 +3,20 @@ ghost use mathlib.Core.Path.{_≡_};
 ghost use Prim.Native.Nat.{_<_, _≤_};
 ghost use Rattle.certificate.specs.Layout.{maxLinks, linksOf, gridAt, cellsOf};
 ghost use Rattle.certificate.specs.Facts.{Readable};
-ghost use Rattle.cell_tables.specs.Tables.{PlacesOf, edgeOf, EdgesOf, CountsOf, WeightsOf};
+ghost use Rattle.cell_tables.specs.Tables.{edgeRow, PlacesOf, edgeOf, EdgesOf, CountsOf, WeightsOf};
 ghost use Rattle.octets.specs.Bounds.{startBound};
 use box_records::grids;
 use certificate::limits;
 use road_records::links as link_records;
 
+// The edges of a link: one more than its intervals. The table has a row of them for each link.
+pub const EDGE_ROW: usize = limits::MAX_INTERVALS + 1;
+
+pub const EDGES: usize = limits::MAX_LINKS * EDGE_ROW;
+
 // Edge i of link l: 0, then the cuts, then cap.
 fn edge_at(s: &[u8], o: usize, l: usize, i: usize) -> usize
-    requires { ⌜ (o ≤ startBound) × (o ≡ gridAt (now s) l) × (l < maxLinks) × (i < 16) ⌝ }
+    requires { ⌜ (o ≤ startBound) × (o ≡ gridAt (now s) l) × (l < maxLinks) × (i < edgeRow) ⌝ }
     ensures { λ r. ⌜ r ≡ edgeOf (now (s .entry)) l i ⌝ }
 {
     if i == 0 {
@@ -24,14 +29,14 @@ fn edge_at(s: &[u8], o: usize, l: usize, i: usize) -> usize
 }
 
 // Sixteen edges a link.
-pub fn edges_of(s: &[u8], places: &[usize; limits::MAX_LINKS], links: usize) -> [usize; 128]
+pub fn edges_of(s: &[u8], places: &[usize; limits::MAX_LINKS], links: usize) -> [usize; EDGES]
     requires { ⌜ Readable (now s) × PlacesOf (now s) (now places) × (links ≡ linksOf (now s)) ⌝ }
     ensures { λ r. ⌜ EdgesOf (now (s .entry)) r ⌝ }
 {
-    let mut edges = [0; 128];
-    for k in 0..16 * links {
-        let l = k / 16;
-        edges[k] = edge_at(s, places[l], l, k % 16);
+    let mut edges = [0; EDGES];
+    for k in 0..EDGE_ROW * links {
+        let l = k / EDGE_ROW;
+        edges[k] = edge_at(s, places[l], l, k % EDGE_ROW);
     }
     edges
 }

@@ -2,13 +2,16 @@
 ghost use mathlib.Core.Path.{_≡_};
 ghost use Prim.Native.Nat.{ℕ, _+_, _*_, _<_, _≤_, min};
 ghost use lib.ListN.{getD, length};
-ghost use Rattle.certificate.specs.Layout.{maxCells, maxLinks, linksOf, boxesOf, entriesOf};
+ghost use Rattle.certificate.specs.Layout.{maxBoxes, maxCells, maxLinks, linksOf, boxesOf, entriesOf};
 ghost use Rattle.network.specs.Laws.{Screened};
-ghost use Rattle.entry_setup.specs.Tables.{CapsOf, ArrivalsOf, TablesOf, EntryEnds, IsTask};
+ghost use Rattle.entry_setup.specs.Tables.{arrivalRow, CapsOf, ArrivalsOf, TablesOf, EntryEnds, IsTask};
 ghost use Rattle.entry_search.specs.Search.{EntryImage, BoxRuns};
+ghost use Rattle.images.specs.Ends.{endBound};
+use cell_tables::tables as edges_table;
 use certificate::limits;
 use entry_setup::LinkTables;
 use entry_setup::Task;
+use entry_setup::amounts;
 use images::ends;
 use successors::ranges;
 use successors::starts;
@@ -18,10 +21,10 @@ fn ends_under(
     links: usize,
     caps: &[usize; limits::MAX_LINKS],
     before: &[usize; limits::MAX_LINKS],
-    arrivals: &[usize; 128],
+    arrivals: &[usize; amounts::ARRIVALS],
     at: usize,
 ) -> [usize; limits::MAX_LINKS]
-    requires { ⌜ (links ≤ maxLinks) × (at ≤ 113) × ((l : ℕ) → l < links → (getD (now before) l 0 ≤ 10000000000) × (getD (now arrivals) (at + 2 * l) 0 ≤ 10000000000)) ⌝ }
+    requires { ⌜ (links ≤ maxLinks) × (at + 2 * maxLinks ≤ maxBoxes * arrivalRow + 1) × ((l : ℕ) → l < links → (getD (now before) l 0 ≤ endBound) × (getD (now arrivals) (at + 2 * l) 0 ≤ endBound)) ⌝ }
     ensures { λ r. ⌜ ((l : ℕ) → l < links → getD r l 0 ≡ min (getD (now (caps .entry)) l 0) (getD (now (before .entry)) l 0 + getD (now (arrivals .entry)) (at + 2 * l) 0)) ⌝ }
 {
     let mut r = [0usize; limits::MAX_LINKS];
@@ -37,7 +40,7 @@ fn image_of<'a>(
     s: &[u8],
     links: usize,
     caps: &[usize; limits::MAX_LINKS],
-    arrivals: &[usize; 128],
+    arrivals: &[usize; amounts::ARRIVALS],
     low: &'a [usize; limits::MAX_LINKS],
     high: &'a [usize; limits::MAX_LINKS],
     e: usize,
@@ -46,8 +49,8 @@ fn image_of<'a>(
     requires { ⌜ Screened (now s) × (links ≡ linksOf (now s)) × CapsOf (now s) (now caps) × ArrivalsOf (now s) (now arrivals) × EntryEnds (now s) e (now low) (now high) × (e < entriesOf (now s)) × (b < boxesOf (now s)) ⌝ }
     ensures { λ r. ⌜ EntryImage (now (s .entry)) e b (r .low) (r .high) ⌝ }
 {
-    let from = ends_under(links, caps, low, arrivals, 16 * b);
-    let to = ends_under(links, caps, high, arrivals, 16 * b + 1);
+    let from = ends_under(links, caps, low, arrivals, amounts::ARRIVAL_ROW * b);
+    let to = ends_under(links, caps, high, arrivals, amounts::ARRIVAL_ROW * b + 1);
     ends::Ends {
         low: from,
         high: to,
@@ -59,8 +62,8 @@ pub fn box_runs(
     s: &[u8],
     task: Task,
     tables: LinkTables,
-    edges: &[usize; 128],
-    arrivals: &[usize; 128],
+    edges: &[usize; edges_table::EDGES],
+    arrivals: &[usize; amounts::ARRIVALS],
     before: ends::Ends,
     b: usize,
     runs: &mut [u16],

@@ -6,16 +6,19 @@ ghost use Rattle.rank_tables.specs.Index.{RanksOf};
 ghost use Rattle.judging.specs.EntryTests.{successorFault};
 ghost use Rattle.entry_setup.specs.Tables.{TablesOf, EntryEnds, IsTask};
 ghost use Rattle.entry_search.specs.Search.{boxesFrom};
-ghost use Rattle.certificate.specs.Layout.{maxCells};
+ghost use Rattle.certificate.specs.Layout.{maxBoxes, maxCells};
 use crate::boxes;
+use cell_tables::tables as edges_table;
 use certificate::Report;
 use entry_setup::LinkTables;
 use entry_setup::Task;
+use entry_setup::amounts;
 use images::ends;
 use octets::numbers;
+use rank_tables::ranks as rank_table;
 
 // The number of the refusal of successor d: 14 where it is not listed with the next mode, 15 where its rank is not lower, else 0.
-fn successor_number(s: &[u8], task: Task, ranks: &[u32; 32768], d: usize) -> u8
+fn successor_number(s: &[u8], task: Task, ranks: &[u32; rank_table::RANKS], d: usize) -> u8
     requires { ⌜ IsTask (now s) task × RanksOf (now s) (now ranks) × (d < task .cells) ⌝ }
     ensures { λ r. ⌜ r ≡ successorFault (now (s .entry)) (task .entry) d 0 .number ⌝ }
 {
@@ -37,15 +40,15 @@ pub fn search_boxes(
     s: &[u8],
     task: Task,
     tables: LinkTables,
-    ranks: &[u32; 32768],
-    edges: &[usize; 128],
-    arrivals: &[usize; 128],
+    ranks: &[u32; rank_table::RANKS],
+    edges: &[usize; edges_table::EDGES],
+    arrivals: &[usize; amounts::ARRIVALS],
     runs: &mut [u16],
     before: ends::Ends,
     count: u32,
 ) -> Report
-    requires { ⌜ TablesOf (now s) tables (now edges) (now arrivals) × RanksOf (now s) (now ranks) × IsTask (now s) task × EntryEnds (now s) (task .entry) (before .low) (before .high) × (count ≤ 32768 * task .entry) × (length (now runs) ≡ maxCells) ⌝ }
-    ensures { λ r. ⌜ (r ≡ boxesFrom (now (s .entry)) (task .entry) 0 count) × (r .count ≤ 32768 * (task .entry + 1)) × (length (now (runs .exit)) ≡ maxCells) ⌝ }
+    requires { ⌜ TablesOf (now s) tables (now edges) (now arrivals) × RanksOf (now s) (now ranks) × IsTask (now s) task × EntryEnds (now s) (task .entry) (before .low) (before .high) × (count ≤ maxBoxes * maxCells * task .entry) × (length (now runs) ≡ maxCells) ⌝ }
+    ensures { λ r. ⌜ (r ≡ boxesFrom (now (s .entry)) (task .entry) 0 count) × (r .count ≤ maxBoxes * maxCells * (task .entry + 1)) × (length (now (runs .exit)) ≡ maxCells) ⌝ }
 {
     let mut found = octets::accept();
     let mut looked = count;

@@ -6,7 +6,7 @@ use lib.Dec.{eqb}
 use lib.ListN.{getD}
 use Rattle.certificate.specs.Octets.{u16At}
 use Rattle.certificate.specs.Loops.{pick}
-use Rattle.certificate.specs.Layout.{maxModes, maxEntries, maxBoxes, maxCells, linksOf, modesOf, capOf, cellsOf, boxesOf, arrivalAt, lowOf, highOf, entriesOf, cellOf, nextModeOf, rankOf}
+use Rattle.certificate.specs.Layout.{maxLinks, maxModes, maxEntries, maxBoxes, maxCells, linksOf, modesOf, capOf, cellsOf, boxesOf, arrivalAt, lowOf, highOf, entriesOf, cellOf, nextModeOf, rankOf}
 use Rattle.network.specs.Network.{networkOf, entryLimit}
 use Rattle.network.specs.Flow.{gross}
 use Rattle.network.specs.Image.{lowCorner, highCorner}
@@ -17,19 +17,24 @@ use Rattle.octets.specs.Tables.{Holds}
 use Rattle.cell_tables.specs.Tables.{EdgesOf, GridOf}
 use Rattle.entry_setup.specs.declared.LinkTables.{LinkTables}
 use Rattle.entry_setup.specs.declared.Task.{Task}
+use Rattle.images.specs.Ends.{endBound}
 
 -- ten thousand times the cap of each link
 abbrev pub CapsOf : List ℕ → List ℕ → Type 0
 CapsOf s a = Holds (linksOf s) (λ l. 10000 * capOf s l) a
 
--- sixteen a box: for each link ten thousand times the least and the most that arrives
-pub record ArrivalsOf (s a : List ℕ) : Type 0 where
-  pub low-is : (b l : ℕ) → b < boxesOf s → l < linksOf s → getD a (16 * b + 2 * l) 0 ≡ 10000 * lowOf s b l
-  pub high-is : (b l : ℕ) → b < boxesOf s → l < linksOf s → getD a (16 * b + 1 + 2 * l) 0 ≡ 10000 * highOf s b l
+-- the table of arrivals has a row for each box: two amounts for each link that there may be
+abbrev pub arrivalRow : ℕ
+arrivalRow = 2 * maxLinks
 
--- entry k of that table: field k % 16 of box k / 16
+-- for each link ten thousand times the least and the most that arrives
+pub record ArrivalsOf (s a : List ℕ) : Type 0 where
+  pub low-is : (b l : ℕ) → b < boxesOf s → l < linksOf s → getD a (arrivalRow * b + 2 * l) 0 ≡ 10000 * lowOf s b l
+  pub high-is : (b l : ℕ) → b < boxesOf s → l < linksOf s → getD a (arrivalRow * b + 1 + 2 * l) 0 ≡ 10000 * highOf s b l
+
+-- entry k of that table: one field of one box
 unfoldable pub arrivalEntry : List ℕ → ℕ → ℕ
-arrivalEntry s k = 10000 * u16At s (arrivalAt s (k / 16) + (2 + 2 * (k % 16)))
+arrivalEntry s k = 10000 * u16At s (arrivalAt s (k / arrivalRow) + (2 + 2 * (k % arrivalRow)))
 
 -- the tables of a certificate that passes the tests before 12: those of its links, the edges of the links' intervals, and the arrivals
 -- of each box
@@ -56,12 +61,16 @@ pub record EntryEnds (s : List ℕ) (e : ℕ) (low high : List ℕ) : Type 0 whe
       → getD low l 0 ≡ gross (networkOf s) (entryLimit s e) 1 (lowCorner (networkOf s) l (lowerOf s (cellOf s e)) (upperOf s (cellOf s e))) (λ _. 0) l
   pub high-is : (l : ℕ) → l < linksOf s
       → getD high l 0 ≡ gross (networkOf s) (entryLimit s e) 1 (highCorner (networkOf s) l (lowerOf s (cellOf s e)) (upperOf s (cellOf s e))) (λ _. 0) l
-  pub low-most : (l : ℕ) → l < linksOf s → getD low l 0 ≤ 10000000000
-  pub high-most : (l : ℕ) → l < linksOf s → getD high l 0 ≤ 10000000000
+  pub low-most : (l : ℕ) → l < linksOf s → getD low l 0 ≤ endBound
+  pub high-most : (l : ℕ) → l < linksOf s → getD high l 0 ≤ endBound
+
+-- above every number of 32 bits, so above all of the table
+abbrev pub anyRank : ℕ
+anyRank = 4294967296
 
 -- what the table of ranks, which has them raised by one, must stay below for a successor: a lower rank, or any where the rank is 0
 unfoldable pub boundFor : ℕ → ℕ
-boundFor rank = pick (eqb rank 0) 4294967296 (rank + 1)
+boundFor rank = pick (eqb rank 0) anyRank (rank + 1)
 
 -- the task of an entry: the numbers are those of the certificate and of the entry, and `row` is where the next mode's ranks stand
 pub record IsTask (s : List ℕ) (task : Task) : Type 0 where

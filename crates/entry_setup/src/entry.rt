@@ -14,6 +14,8 @@ ghost use Rattle.supply.specs.Supply.{FirstTurns};
 ghost use Rattle.cell_tables.specs.Tables.{EdgesOf, DigitsOf};
 ghost use Rattle.entry_setup.specs.Tables.{CellEdges, EntryLimits, EntryEnds, boundFor, IsTask};
 use crate::Task;
+use cell_tables::digits;
+use cell_tables::tables;
 use certificate::limits;
 use entry_records::entries;
 use images::ends;
@@ -21,6 +23,9 @@ use octets::numbers;
 use reading::Layout;
 use road_records::links;
 use road_records::signals;
+
+// Above every number of 32 bits, so above all of the table of ranks.
+const ANY_RANK: usize = 4294967296;
 
 pub struct Edges {
     pub lower: [usize; limits::MAX_LINKS],
@@ -33,7 +38,7 @@ fn bound_for(rank: usize) -> usize
     ensures { λ r. ⌜ r ≡ boundFor rank ⌝ }
 {
     if rank == 0 {
-        return 4294967296;
+        return ANY_RANK;
     }
     rank + 1
 }
@@ -57,18 +62,18 @@ pub fn task_of(s: &[u8], layout: Layout, e: usize) -> Task
 }
 
 // The interval of link l in a cell.
-fn interval_in(s: &[u8], digits: &[u8; 32768], cell: usize, l: usize) -> usize
+fn interval_in(s: &[u8], digits: &[u8; digits::DIGITS], cell: usize, l: usize) -> usize
     requires { ⌜ Readable (now s) × DigitsOf (now s) (now digits) × (cell < cellsOf (now s)) × (l < linksOf (now s)) ⌝ }
     ensures { λ r. ⌜ (r ≡ intervalIn (now (s .entry)) cell l) × (r < intervalsOf (now (s .entry)) l) × (r < 15) ⌝ }
 {
-    numbers::wide(digits[8 * cell + l])
+    numbers::wide(digits[limits::MAX_LINKS * cell + l])
 }
 
 // The edges of a cell.
 pub fn cell_edges(
     s: &[u8],
-    digits: &[u8; 32768],
-    edges: &[usize; 128],
+    digits: &[u8; digits::DIGITS],
+    edges: &[usize; tables::EDGES],
     links: usize,
     cell: usize,
 ) -> Edges
@@ -79,8 +84,8 @@ pub fn cell_edges(
     let mut upper = [0usize; limits::MAX_LINKS];
     for l in 0..links {
         let i = interval_in(s, digits, cell, l);
-        lower[l] = edges[16 * l + i];
-        upper[l] = edges[16 * l + i + 1];
+        lower[l] = edges[tables::EDGE_ROW * l + i];
+        upper[l] = edges[tables::EDGE_ROW * l + i + 1];
     }
     Edges { lower, upper }
 }

@@ -5,10 +5,10 @@ ghost use Prim.Native.Nat.{ℕ, _+_, _*_, _<_, _≤_, min};
 ghost use lib.Dec.{eqb};
 ghost use lib.ListN.{length};
 ghost use Rattle.certificate.specs.Loops.{pick};
-ghost use Rattle.certificate.specs.Layout.{maxLinks, linksOf, turnsOf, shareOf};
+ghost use Rattle.certificate.specs.Layout.{maxTurns, maxLinks, linksOf, turnsOf, shareOf};
 ghost use Rattle.screening.specs.NetworkParts.{NetworkAt};
 ghost use Rattle.supply.specs.Supply.{at, FirstTurns, WithinCaps, TwoLeast, sentBy};
-ghost use Rattle.images.specs.Ends.{LimitsFit, PassedOn, EndsSoFar, EndsBefore};
+ghost use Rattle.images.specs.Ends.{mostQueue, mostPassed, endBound, LimitsFit, PassedOn, EndsSoFar, EndsBefore};
 use certificate::limits;
 use octets::numbers;
 use turn_records::turns;
@@ -20,8 +20,8 @@ pub struct Ends {
 
 // Ten thousand times each queue.
 fn scale(links: usize, x: &[usize; limits::MAX_LINKS], ends: &mut [usize; limits::MAX_LINKS])
-    requires { ⌜ (links ≤ maxLinks) × ((l : ℕ) → l < links → at (now x) l ≤ 10000) × (length (now ends) ≡ 8) ⌝ }
-    ensures { λ _. ⌜ (length (now (ends .exit)) ≡ 8) × ((l : ℕ) → l < links → at (now (ends .exit)) l ≡ 10000 * at (now (x .entry)) l) ⌝ }
+    requires { ⌜ (links ≤ maxLinks) × ((l : ℕ) → l < links → at (now x) l ≤ 10000) × (length (now ends) ≡ maxLinks) ⌝ }
+    ensures { λ _. ⌜ (length (now (ends .exit)) ≡ maxLinks) × ((l : ℕ) → l < links → at (now (ends .exit)) l ≡ 10000 * at (now (x .entry)) l) ⌝ }
 {
     for l in 0..links {
         ends[l] = 10000 * x[l];
@@ -36,7 +36,7 @@ fn sent_by(
     most: usize,
     t: usize,
 ) -> usize
-    requires { ⌜ t < 32 ⌝ }
+    requires { ⌜ t < maxTurns ⌝ }
     ensures { λ r. ⌜ (r ≡ min (min (at (now (near .entry)) t) (pick (eqb (at (now (far .entry)) t) (two .least)) (two .next) (two .least))) most) × (r ≤ most) ⌝ }
 {
     numbers::smaller(
@@ -66,7 +66,7 @@ fn pass_on(
     two: supply::Two,
     ends: &mut [usize; limits::MAX_LINKS],
 )
-    requires { ⌜ NetworkAt (now s) start (turnsOf (now s)) (linksOf (now s)) × (sender .from ≤ sender .end) × (sender .end ≤ turnsOf (now s)) × (sender .link < linksOf (now s)) × (at (now x) (sender .link) ≤ 10000) × (10000 * at (now x) (sender .link) ≤ at (now ends) (sender .link)) × TwoLeast (at (now far)) (sender .from) (sender .end) (two .least) (two .next) × (linksOf (now s) ≤ length (now ends)) × ((k : ℕ) → k < linksOf (now s) → at (now ends) k ≤ 100000000 + sender .from * 255000000) ⌝ }
+    requires { ⌜ NetworkAt (now s) start (turnsOf (now s)) (linksOf (now s)) × (sender .from ≤ sender .end) × (sender .end ≤ turnsOf (now s)) × (sender .link < linksOf (now s)) × (at (now x) (sender .link) ≤ 10000) × (10000 * at (now x) (sender .link) ≤ at (now ends) (sender .link)) × TwoLeast (at (now far)) (sender .from) (sender .end) (two .least) (two .next) × (linksOf (now s) ≤ length (now ends)) × ((k : ℕ) → k < linksOf (now s) → at (now ends) k ≤ mostQueue + sender .from * mostPassed) ⌝ }
     ensures { λ _. ⌜ PassedOn (now (s .entry)) (λ t. shareOf (now (s .entry)) t * sentBy (at (now (near .entry))) (at (now (far .entry))) (sender .from) (sender .end) (min (100 * at (now (x .entry)) (sender .link)) (sender .flow)) t) (sender .from) (sender .end) (sender .link) (100 * min (own .least) (min (100 * at (now (x .entry)) (sender .link)) (sender .flow))) (now (ends .entry)) (now (ends .exit)) ⌝ }
 {
     let l = sender.link;
@@ -96,8 +96,8 @@ fn send(
     low: &mut [usize; limits::MAX_LINKS],
     high: &mut [usize; limits::MAX_LINKS],
 )
-    requires { ⌜ NetworkAt (now s) start (turnsOf (now s)) (linksOf (now s)) × FirstTurns (now s) (now first) × WithinCaps (now s) (now lower) × WithinCaps (now s) (now upper) × (l < linksOf (now s)) × LimitsFit (now s) (now limits) × EndsSoFar (now s) (at (now limits)) (at (now lower)) (at (now upper)) (now first) l (now low) × EndsSoFar (now s) (at (now limits)) (at (now upper)) (at (now lower)) (now first) l (now high) × (length (now lows) ≡ 32) × (length (now highs) ≡ 32) ⌝ }
-    ensures { λ _. ⌜ EndsSoFar (now (s .entry)) (at (now (limits .entry))) (at (now (lower .entry))) (at (now (upper .entry))) (now (first .entry)) (l + 1) (now (low .exit)) × EndsSoFar (now (s .entry)) (at (now (limits .entry))) (at (now (upper .entry))) (at (now (lower .entry))) (now (first .entry)) (l + 1) (now (high .exit)) × (length (now (lows .exit)) ≡ 32) × (length (now (highs .exit)) ≡ 32) ⌝ }
+    requires { ⌜ NetworkAt (now s) start (turnsOf (now s)) (linksOf (now s)) × FirstTurns (now s) (now first) × WithinCaps (now s) (now lower) × WithinCaps (now s) (now upper) × (l < linksOf (now s)) × LimitsFit (now s) (now limits) × EndsSoFar (now s) (at (now limits)) (at (now lower)) (at (now upper)) (now first) l (now low) × EndsSoFar (now s) (at (now limits)) (at (now upper)) (at (now lower)) (now first) l (now high) × (length (now lows) ≡ maxTurns) × (length (now highs) ≡ maxTurns) ⌝ }
+    ensures { λ _. ⌜ EndsSoFar (now (s .entry)) (at (now (limits .entry))) (at (now (lower .entry))) (at (now (upper .entry))) (now (first .entry)) (l + 1) (now (low .exit)) × EndsSoFar (now (s .entry)) (at (now (limits .entry))) (at (now (upper .entry))) (at (now (lower .entry))) (now (first .entry)) (l + 1) (now (high .exit)) × (length (now (lows .exit)) ≡ maxTurns) × (length (now (highs .exit)) ≡ maxTurns) ⌝ }
 {
     let limit = limits[l];
     if limit == 0 {
@@ -158,7 +158,7 @@ pub fn ends_of(
 
 // An end with arrivals, cut at cap; all in ten thousandths.
 pub fn end_of(cap: usize, before: usize, arrivals: usize) -> usize
-    requires { ⌜ (before ≤ 10000000000) × (arrivals ≤ 10000000000) ⌝ }
+    requires { ⌜ (before ≤ endBound) × (arrivals ≤ endBound) ⌝ }
     ensures { λ r. ⌜ r ≡ min cap (before + arrivals) ⌝ }
 {
     numbers::smaller(cap, before + arrivals)

@@ -81,20 +81,23 @@ pub fn refuse(number: u8, a: usize) -> Report
     }
 }
 
-// The two-byte mark at o is m and k.
-pub fn marked_as(s: &[u8], o: usize, m: usize, k: usize) -> bool
-    requires { ⌜ o ≤ offsetBound ⌝ }
-    ensures { λ r. ⌜ r ≡ marked (now (s .entry)) o m k ⌝ }
-{
-    (byte_at(s, o) == m) & (byte_at(s, o + 1) == k)
-}
-
-// The same where the mark is known to lie within: no test.
+// The two-byte mark at o, which is known to lie within, is m and k.
 pub fn marked_within(s: &[u8], o: usize, m: usize, k: usize) -> bool
     requires { ⌜ (o ≤ offsetBound) × (o + 2 ≤ length (now s)) ⌝ }
     ensures { λ r. ⌜ r ≡ marked (now (s .entry)) o m k ⌝ }
 {
     (byte_within(s, o) == m) & (byte_within(s, o + 1) == k)
+}
+
+// The same at any offset, for a mark whose second byte is not 0: none stands past the end.
+pub fn marked_as(s: &[u8], o: usize, m: usize, k: usize) -> bool
+    requires { ⌜ (o ≤ offsetBound) × (1 ≤ k) ⌝ }
+    ensures { λ r. ⌜ r ≡ marked (now (s .entry)) o m k ⌝ }
+{
+    if s.len() < o + 2 {
+        return false;
+    }
+    marked_within(s, o, m, k)
 }
 
 // The record at o: its mark present (1), right (2), which `mark` says, and all of its size there (1).

@@ -6,8 +6,9 @@ ghost use Rattle.certificate.specs.Loops.{pick};
 ghost use Rattle.certificate.specs.Layout.{linksOf, intervalsOf};
 ghost use Rattle.certificate.specs.Facts.{Readable};
 ghost use Rattle.grid.specs.Intervals.{upperEdge};
-ghost use Rattle.cell_tables.specs.Tables.{EdgesOf, CountsOf};
+ghost use Rattle.cell_tables.specs.Tables.{edgeRow, EdgesOf, CountsOf};
 ghost use Rattle.successors.specs.Ranges.{IsFirst, IsLast, RangesOf};
+use cell_tables::tables;
 use certificate::limits;
 
 // The range of one link, and those of all.
@@ -22,16 +23,16 @@ pub struct Ranges {
 }
 
 // The upper edge of interval i of link l: the lower edge of the next.
-fn upper_at(s: &[u8], edges: &[usize; 128], l: usize, i: usize) -> usize
+fn upper_at(s: &[u8], edges: &[usize; tables::EDGES], l: usize, i: usize) -> usize
     requires { ⌜ Readable (now s) × EdgesOf (now s) (now edges) × (l < linksOf (now s)) × (i < intervalsOf (now s) l) ⌝ }
     ensures { λ r. ⌜ r ≡ 10000 * upperEdge (now (s .entry)) l i ⌝ }
 {
-    10000 * edges[16 * l + i + 1]
+    10000 * edges[tables::EDGE_ROW * l + i + 1]
 }
 
 // How many edges are at most `end`, where n were so before this one.
 fn passed(n: usize, edge: usize, end: usize) -> usize
-    requires { ⌜ n < 16 ⌝ }
+    requires { ⌜ n < edgeRow ⌝ }
     ensures { λ r. ⌜ r ≡ pick (leb edge end) (n + 1) n ⌝ }
 {
     if edge <= end {
@@ -44,7 +45,7 @@ fn passed(n: usize, edge: usize, end: usize) -> usize
 // its upper edge; where low is above that too, the first is the count.
 fn range_of(
     s: &[u8],
-    edges: &[usize; 128],
+    edges: &[usize; tables::EDGES],
     l: usize,
     count: usize,
     low: usize,
@@ -69,7 +70,7 @@ fn range_of(
 
 pub fn ranges_of<'a>(
     s: &[u8],
-    edges: &[usize; 128],
+    edges: &[usize; tables::EDGES],
     counts: &[usize; limits::MAX_LINKS],
     links: usize,
     low: &'a [usize; limits::MAX_LINKS],

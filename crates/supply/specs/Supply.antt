@@ -5,7 +5,7 @@ use mathlib.Core.Path.{_≡_}
 use lib.Dec.{leb, eqb}
 use lib.ListN.{length, getD}
 use Rattle.certificate.specs.Loops.{pick, find}
-use Rattle.certificate.specs.Layout.{maxLinks, maxTurns, linksOf, turnsOf, capOf, fromOf, toOf, pullOf}
+use Rattle.certificate.specs.Layout.{maxCap, maxLinks, maxTurns, linksOf, turnsOf, capOf, fromOf, toOf, pullOf}
 use Rattle.network.specs.Flow.{leastTo}
 
 -- element k of an array
@@ -29,12 +29,16 @@ pub record Supplies (s : List ℕ) (x : ℕ → ℕ) (from end : ℕ) (rooms : L
   pub long : length rooms ≡ maxTurns
   pub room : (t : ℕ) → from ≤ t → t < end → at rooms t ≡ supplyAt s x t
 
--- least is the least of the numbers of f from `from` up to `end`, or a million, which no link sends more than; and next the least without it,
+-- no link sends more, in hundredths: the greatest cap
+abbrev pub mostSent : ℕ
+mostSent = 100 * maxCap
+
+-- least is the least of the numbers of f from `from` up to `end`, or the most that a link sends; and next the least without it,
 -- so that of each of these numbers the least of the others is known
 pub record TwoLeast (f : ℕ → ℕ) (from end least next : ℕ) : Type 0 where
-  pub least-is : least ≡ leastTo end (leb from) f 1000000
-  pub ordered : (least ≤ next) × (next ≤ 1000000)
-  pub others-is : (t : ℕ) → from ≤ t → t < end → pick (eqb (f t) least) next least ≡ leastTo end (leb from) (λ u. pick (eqb u t) 1000000 (f u)) 1000000
+  pub least-is : least ≡ leastTo end (leb from) f mostSent
+  pub ordered : (least ≤ next) × (next ≤ mostSent)
+  pub others-is : (t : ℕ) → from ≤ t → t < end → pick (eqb (f t) least) next least ≡ leastTo end (leb from) (λ u. pick (eqb u t) mostSent (f u)) mostSent
 
 -- what the link of turns from .. end sends by these supplies, at most `most`, with turn t's supply of near and the others' of far
 abbrev pub sentBy : (ℕ → ℕ) → (ℕ → ℕ) → ℕ → ℕ → ℕ → ℕ → ℕ

@@ -5,7 +5,7 @@ ghost use Prim.Native.Nat.{_+_, _*_, _<_, _≤_, min, max};
 ghost use lib.Dec.{leb, eqb};
 ghost use lib.ListN.{length};
 ghost use Rattle.certificate.specs.Loops.{pick, find};
-ghost use Rattle.certificate.specs.Layout.{linkSize, linkAt, linksOf, turnsOf, turnsStart, turnAt, turnSize, capOf, fromOf, toOf};
+ghost use Rattle.certificate.specs.Layout.{maxTurns, linkSize, linkAt, linksOf, turnsOf, turnsStart, turnAt, turnSize, capOf, fromOf, toOf};
 ghost use Rattle.screening.specs.NetworkParts.{NetworkAt};
 ghost use Rattle.supply.specs.Supply.{at, FirstTurns, WithinCaps, supplyAt, Supplies, TwoLeast};
 ghost use Rattle.octets.specs.Bounds.{startBound};
@@ -13,6 +13,9 @@ use certificate::limits;
 use octets::numbers;
 use road_records::links;
 use turn_records::turns;
+
+// No link sends more, in hundredths: the greatest cap.
+const MOST_SENT: usize = 100 * limits::MAX_CAP;
 
 // What a link has room for, at lower and at upper queues.
 pub struct Rooms {
@@ -51,7 +54,7 @@ pub fn first_turns(s: &[u8], start: usize, turns: usize) -> [usize; limits::MAX_
     ensures { λ r. ⌜ FirstTurns (now (s .entry)) r ⌝ }
 {
     let mut first = [0usize; limits::MAX_LINKS + 1];
-    for j in 0..9 {
+    for j in 0..limits::MAX_LINKS + 1 {
         first[j] = first_turn(s, start, turns, j);
     }
     first
@@ -98,7 +101,7 @@ pub fn others_of(two: Two, v: usize) -> usize
     two.least
 }
 
-// The supplies of the turns from..end, and the two least of them. No link sends more than 1,000,000 hundredths.
+// The supplies of the turns from..end, and the two least of them.
 pub fn supplies(
     s: &[u8],
     start: usize,
@@ -109,17 +112,17 @@ pub fn supplies(
     by_lower: &mut [usize; limits::MAX_TURNS],
     by_upper: &mut [usize; limits::MAX_TURNS],
 ) -> Least
-    requires { ⌜ NetworkAt (now s) start (turnsOf (now s)) (linksOf (now s)) × (from ≤ end) × (end ≤ turnsOf (now s)) × WithinCaps (now s) (now lower) × WithinCaps (now s) (now upper) × (length (now «by_lower») ≡ 32) × (length (now «by_upper») ≡ 32) ⌝ }
+    requires { ⌜ NetworkAt (now s) start (turnsOf (now s)) (linksOf (now s)) × (from ≤ end) × (end ≤ turnsOf (now s)) × WithinCaps (now s) (now lower) × WithinCaps (now s) (now upper) × (length (now «by_lower») ≡ maxTurns) × (length (now «by_upper») ≡ maxTurns) ⌝ }
     ensures { λ r. ⌜ Supplies (now (s .entry)) (at (now (lower .entry))) from end (now («by_lower» .exit)) × Supplies (now (s .entry)) (at (now (upper .entry))) from end (now («by_upper» .exit))
         × TwoLeast (supplyAt (now (s .entry)) (at (now (lower .entry)))) from end (r .lower .least) (r .lower .next) × TwoLeast (supplyAt (now (s .entry)) (at (now (upper .entry)))) from end (r .upper .least) (r .upper .next) ⌝ }
 {
     let mut lowest = Two {
-        least: 1000000,
-        next: 1000000,
+        least: MOST_SENT,
+        next: MOST_SENT,
     };
     let mut highest = Two {
-        least: 1000000,
-        next: 1000000,
+        least: MOST_SENT,
+        next: MOST_SENT,
     };
     for t in from..end {
         let rooms = rooms_of(s, start, t, lower, upper);

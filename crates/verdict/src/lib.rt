@@ -2,7 +2,7 @@
 ghost use mathlib.Core.Path.{_≡_};
 ghost use Prim.Native.Nat.{_+_, _*_, _<_, _≤_};
 ghost use lib.ListN.{length};
-ghost use Rattle.certificate.specs.Layout.{maxCells, entriesOf, boxesOf, cellsOf};
+ghost use Rattle.certificate.specs.Layout.{maxBoxes, maxModes, maxCells, entriesOf, boxesOf, cellsOf};
 ghost use Rattle.certificate.specs.Facts.{Readable};
 ghost use Rattle.reading.specs.ReadingResults.{LaidOut};
 ghost use Rattle.network.specs.Laws.{Screened};
@@ -32,16 +32,16 @@ fn judge_entry(
     s: &[u8],
     layout: Layout,
     tables: LinkTables,
-    ranks: &[u32; 32768],
-    digits: &[u8; 32768],
-    edges: &[usize; 128],
-    arrivals: &[usize; 128],
+    ranks: &[u32; ranks::RANKS],
+    digits: &[u8; cells::DIGITS],
+    edges: &[usize; tables::EDGES],
+    arrivals: &[usize; amounts::ARRIVALS],
     runs: &mut [u16],
     e: usize,
     count: u32,
 ) -> Report
-    requires { ⌜ LaidOut (now s) layout × TablesOf (now s) tables (now edges) (now arrivals) × RanksOf (now s) (now ranks) × (e < entriesOf (now s)) × (count ≤ 32768 * e) × DigitsOf (now s) (now digits) × (length (now runs) ≡ maxCells) ⌝ }
-    ensures { λ r. ⌜ (r ≡ entryAlone (now (s .entry)) e count) × (r .count ≤ 32768 * (e + 1)) × (length (now (runs .exit)) ≡ maxCells) ⌝ }
+    requires { ⌜ LaidOut (now s) layout × TablesOf (now s) tables (now edges) (now arrivals) × RanksOf (now s) (now ranks) × (e < entriesOf (now s)) × (count ≤ maxBoxes * maxCells * e) × DigitsOf (now s) (now digits) × (length (now runs) ≡ maxCells) ⌝ }
+    ensures { λ r. ⌜ (r ≡ entryAlone (now (s .entry)) e count) × (r .count ≤ maxBoxes * maxCells * (e + 1)) × (length (now (runs .exit)) ≡ maxCells) ⌝ }
 {
     let task = entry::task_of(s, layout, e);
     let c = entries::cell_of(s, layout.entries_start, e);
@@ -61,10 +61,10 @@ fn judge_entries(
     s: &[u8],
     layout: Layout,
     tables: LinkTables,
-    ranks: &[u32; 32768],
-    digits: &[u8; 32768],
-    edges: &[usize; 128],
-    arrivals: &[usize; 128],
+    ranks: &[u32; ranks::RANKS],
+    digits: &[u8; cells::DIGITS],
+    edges: &[usize; tables::EDGES],
+    arrivals: &[usize; amounts::ARRIVALS],
     runs: &mut [u16],
 ) -> Report
     requires { ⌜ LaidOut (now s) layout × TablesOf (now s) tables (now edges) (now arrivals) × RanksOf (now s) (now ranks) × DigitsOf (now s) (now digits) × (length (now runs) ≡ maxCells) ⌝ }
@@ -115,7 +115,7 @@ fn link_tables(s: &[u8], layout: Layout) -> LinkTables
 
 // Fills the table of ranks, by way of the index.
 fn rank_table(s: &[u8], layout: Layout, ranks: &mut [u32])
-    requires { ⌜ Readable (now s) × LaidOut (now s) layout × (length (now ranks) ≡ 32768) ⌝ }
+    requires { ⌜ Readable (now s) × LaidOut (now s) layout × (length (now ranks) ≡ maxModes * maxCells) ⌝ }
     ensures { λ _. ⌜ RanksOf (now (s .entry)) (now (ranks .exit)) ⌝ }
 {
     let start = layout.entries_start;
@@ -137,7 +137,7 @@ fn judge_screened(s: &[u8], layout: Layout) -> Report
     let digits = cells::digits_of(s, &counts, &weights, links, layout.cells);
     let edges = tables::edges_of(s, &places, links);
     let arrivals = amounts::arrivals_of(s, layout.arrivals_start, links, layout.boxes);
-    let mut ranks = [0u32; 32768];
+    let mut ranks = [0u32; ranks::RANKS];
     rank_table(s, layout, &mut ranks);
     let mut runs = [0u16; limits::MAX_CELLS];
     judge_entries(
