@@ -1,11 +1,11 @@
 -- The refusal of one successor, by its number, and the code's tests for it. Assumes nothing.
-use Prim.Native.Nat.{ℕ, _+_, _<_}
+use Prim.Native.Nat.{ℕ, _+_, _≤_, _<_}
 use mathlib.Core.List.{List}
 use mathlib.Core.Bool.{Bool, true, false, not, _&&_, _||_}
 use mathlib.Core.Path.{_≡_, refl, sym, ap, _∙_}
 use native.Mathlib.Omega.{arith}
-use borrow.Author.Tests.{lt-ltb, le-ltb, ltb-true, ltb-false, ne-eqb, eqb-false, not-true}
-use lib.Dec.{eqb, ltb}
+use borrow.Author.Tests.{lt-ltb, le-ltb, le-leb, leb-true, leb-false, ne-eqb, eqb-false, not-true}
+use lib.Dec.{eqb, leb, ltb}
 use lib.ListN.{getD}
 use Rattle.certificate.specs.Loops.{pick}
 use Rattle.certificate.specs.declared.Report.{Report}
@@ -48,20 +48,20 @@ module _ (s : List ℕ) (e d n : ℕ) where
     looked-fine z = rw (no-fault (sym k-is ∙ z))
 
 -- a rank r is lower than the rank of the entry judged, or that is 0; the table has r + 1
-by-ranks : (rank r : ℕ) → (eqb rank 0 || ltb r rank) ≡ (eqb rank 0 || ltb (r + 1) (rank + 1))
-by-ranks rank r = ap (λ b. eqb rank 0 || b) (go (ltb (r + 1) (rank + 1)) refl)
+by-ranks : (rank r : ℕ) → (eqb rank 0 || ltb r rank) ≡ (eqb rank 0 || leb (r + 1) rank)
+by-ranks rank r = ap (λ b. eqb rank 0 || b) (go (leb (r + 1) rank) refl)
   where
-    go : (q : Bool) → ltb (r + 1) (rank + 1) ≡ q → ltb r rank ≡ q
-    go true e = lt-ltb r rank (omega (arith, ltb-true (r + 1) (rank + 1) e))
-    go false e = le-ltb r rank (omega (arith, ltb-false (r + 1) (rank + 1) e))
+    go : (q : Bool) → leb (r + 1) rank ≡ q → ltb r rank ≡ q
+    go true e = lt-ltb r rank (omega (arith, leb-true (r + 1) rank e))
+    go false e = le-ltb r rank (omega (arith, leb-false (r + 1) rank e))
 
--- the code compares with a bound that any number of 32 bits is below where the rank is 0
-by-bound : (rank v : ℕ) → v < 4294967296 → ltb v (boundFor rank) ≡ (eqb rank 0 || ltb v (rank + 1))
+-- the code compares with a bound that any number of 32 bits meets where the rank is 0
+by-bound : (rank v : ℕ) → v ≤ 4294967295 → leb v (boundFor rank) ≡ (eqb rank 0 || leb v rank)
 unfolding boundFor
 by-bound rank v most = go (eqb rank 0)
   where
-    go : (z : Bool) → ltb v (pick z 4294967296 (rank + 1)) ≡ (z || ltb v (rank + 1))
-    go true = lt-ltb v 4294967296 most
+    go : (z : Bool) → leb v (pick z 4294967295 rank) ≡ (z || leb v rank)
+    go true = le-leb v 4294967295 most
     go false = refl
 
 -- a slot of the table of ranks is 0 exactly where the pair is not listed
@@ -74,7 +74,7 @@ slot-full true r v e z = (refl, e)
 slot-full false r v e z = absurd (z e)
 
 -- successor d is looked up: v is what the table of ranks has for it and the next mode
-module _ {s : List ℕ} {task : Task} (is : IsTask s task) (ranks : List ℕ) (table : RanksOf s ranks) (d : ℕ) (inside : d < task .cells) (v : ℕ) (v-is : v ≡ getD ranks (task .row + d) 0) (v-most : v < 4294967296) where
+module _ {s : List ℕ} {task : Task} (is : IsTask s task) (ranks : List ℕ) (table : RanksOf s ranks) (d : ℕ) (inside : d < task .cells) (v : ℕ) (v-is : v ≡ getD ranks (task .row + d) 0) (v-most : v ≤ 4294967295) where
   slot : v ≡ rankAt s d (nextModeOf s (task .entry))
   slot = v-is ∙ rw (is .row-is) (table _ d (is .next-exists) (rw (is .cells-is) at inside))
 
@@ -87,18 +87,18 @@ module _ {s : List ℕ} {task : Task} (is : IsTask s task) (ranks : List ℕ) (t
     unfolding rankAt
     full = slot-full _ _ v slot there
 
-    lower : isLower s (task .entry) (entryFor s d (nextModeOf s (task .entry))) ≡ ltb v (task .bound)
+    lower : isLower s (task .entry) (entryFor s d (nextModeOf s (task .entry))) ≡ leb v (task .bound)
     unfolding isLower
     lower =
         rw (full .1, is .rank-is) (by-ranks (rankOf s (task .entry)) (rankOf s (entryFor s d (nextModeOf s (task .entry)))))
         ∙ sym (by-bound (task .rank) v v-most)
-        ∙ ap (ltb v) (sym (is .bound-is))
+        ∙ ap (leb v) (sym (is .bound-is))
 
-    pub is-higher : (not (eqb v 0) && ltb v (task .bound)) ≡ false → 15 ≡ successorFault s (task .entry) d 0 .number
+    pub is-higher : (not (eqb v 0) && leb v (task .bound)) ≡ false → 15 ≡ successorFault s (task .entry) d 0 .number
     unfolding successorFault
     is-higher h = rw (need-pass _ _ _ (full .0), need-fail _ _ _ (lower ∙ (rw (ne-eqb v 0 there) at h)))
 
-  pub is-met : (not (eqb v 0) && ltb v (task .bound)) ≡ true → 0 ≡ successorFault s (task .entry) d 0 .number
+  pub is-met : (not (eqb v 0) && leb v (task .bound)) ≡ true → 0 ≡ successorFault s (task .entry) d 0 .number
   unfolding successorFault
   is-met h =
       let p = and-both _ _ h in

@@ -24,7 +24,7 @@ fn successor_number(s: &[u8], task: Task, ranks: &[u32; rank_table::RANKS], d: u
 {
     let at = task.row + d;
     let v = numbers::wide_quad(ranks[at]);
-    if (v != 0) & (v < task.bound) {
+    if (v != 0) & (v <= task.bound) {
         return 0;
     }
     if v == 0 {

@@ -64,13 +64,13 @@ pub record EntryEnds (s : List ℕ) (e : ℕ) (low high : List ℕ) : Type 0 whe
   pub low-most : (l : ℕ) → l < linksOf s → getD low l 0 ≤ endBound
   pub high-most : (l : ℕ) → l < linksOf s → getD high l 0 ≤ endBound
 
--- above every number of 32 bits, so above all of the table
+-- the greatest number of 32 bits: nothing in the table of ranks is above it
 abbrev pub anyRank : ℕ
-anyRank = 4294967296
+anyRank = 4294967295
 
--- what the table of ranks, which has them raised by one, must stay below for a successor: a lower rank, or any where the rank is 0
+-- the most that the table of ranks, which has them raised by one, may have for a successor: a lower rank, or any where the rank is 0
 unfoldable pub boundFor : ℕ → ℕ
-boundFor rank = pick (eqb rank 0) anyRank (rank + 1)
+boundFor rank = pick (eqb rank 0) anyRank rank
 
 -- the task of an entry: the numbers are those of the certificate and of the entry, and `row` is where the next mode's ranks stand
 pub record IsTask (s : List ℕ) (task : Task) : Type 0 where

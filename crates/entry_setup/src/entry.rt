@@ -24,23 +24,22 @@ use reading::Layout;
 use road_records::links;
 use road_records::signals;
 
-// Above every number of 32 bits, so above all of the table of ranks.
-const ANY_RANK: usize = 4294967296;
+// The greatest number of 32 bits: nothing in the table of ranks is above it.
+const ANY_RANK: usize = 4294967295;
 
 pub struct Edges {
     pub lower: [usize; limits::MAX_LINKS],
     pub upper: [usize; limits::MAX_LINKS],
 }
 
-// What the table of ranks, which has them raised by one, must stay below for a successor of an entry of that rank.
+// The most that the table of ranks, which has them raised by one, may have for a successor of an entry of that rank.
 fn bound_for(rank: usize) -> usize
-    requires { ⌜ rank < 65536 ⌝ }
     ensures { λ r. ⌜ r ≡ boundFor rank ⌝ }
 {
     if rank == 0 {
         return ANY_RANK;
     }
-    rank + 1
+    rank
 }
 
 // The task of entry e.

@@ -21,19 +21,19 @@ returns : tie.Need-returns
 returns c =
     let a = c .before .before .before .before .before .before in
     let v = c .before .before .wide-quad .ensures in
-    is-met (a .pre .0) (a .args .ranks .now) (a .pre .1) _ (a .pre .2) _ (v .0) (v .1) (c .if1 .taken)
+    is-met (a .pre .0) (a .args .ranks .now) (a .pre .1) _ (a .pre .2) _ (v .0) (omega (arith, v .1)) (c .if1 .taken)
 
 returns-2 : tie.Need-returns-2
 returns-2 c =
     let a = c .before .before .before .before .before .before .before in
     let v = c .before .before .before .wide-quad .ensures in
-    is-unlisted (a .pre .0) (a .args .ranks .now) (a .pre .1) _ (a .pre .2) _ (v .0) (v .1) (c .if2 .taken)
+    is-unlisted (a .pre .0) (a .args .ranks .now) (a .pre .1) _ (a .pre .2) _ (v .0) (omega (arith, v .1)) (c .if2 .taken)
 
 returns-3 : tie.Need-returns-3
 returns-3 c =
     let a = c .before .before .before .before .before .before .before in
     let v = c .before .before .before .wide-quad .ensures in
-    is-higher (a .pre .0) (a .args .ranks .now) (a .pre .1) _ (a .pre .2) _ (v .0) (v .1) (c .if2 .left) (c .before .if1 .left)
+    is-higher (a .pre .0) (a .args .ranks .now) (a .pre .1) _ (a .pre .2) _ (v .0) (omega (arith, v .1)) (c .if2 .left) (c .before .if1 .left)
 
 pub successor-number-spec : {M : Type 1} → statement M
 successor-number-spec =
