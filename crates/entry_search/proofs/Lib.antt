@@ -2,5 +2,6 @@
 pub mod Arriving
 pub mod Searching
 pub mod Successors
+pub mod WholeRuns
 pub mod Places
 pub mod SuccessorRuns

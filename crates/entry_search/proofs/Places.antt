@@ -1,21 +1,25 @@
 -- Where the nested search stands, box by box and cell by cell: what is left to find with what was counted, and how far the count can be.
 -- Assumes nothing.
-use Prim.Native.Nat.{ℕ, _+_, _*_, _≤_, _<_}
+use Prim.Native.Nat.{ℕ, zero, suc, _+_, _-_, _*_, _≤_, _<_}
 use mathlib.Core.List.{List}
-use mathlib.Core.Bool.{true, false}
+use mathlib.Core.Bool.{Bool, true, false, _&&_}
 use mathlib.Core.Path.{_≡_, refl, sym, ap, _∙_}
 use native.Mathlib.Omega.{arith}
+use lib.Dec.{leb}
 use lib.ListN.{length, getD}
 use Rattle.certificate.specs.declared.Report.{Report}
+use Rattle.certificate.specs.Loops.{pick, everyFrom}
 use Rattle.certificate.specs.Checks.{result, fine}
 use Rattle.certificate.specs.Layout.{cellsOf}
+use Rattle.certificate.proofs.Tests.{and-both}
+use Rattle.certificate.proofs.Loops.{every-turn}
 use Rattle.successors.specs.Ranges.{startAt}
 use Rattle.successors.proofs.Lists.{start-in, start-past}
 use Rattle.entry_setup.specs.declared.Task.{Task}
 use Rattle.judging.specs.EntryTests.{follows, successorFault}
-use Rattle.entry_search.specs.Search.{BoxRuns, boxesFrom, cellsFrom}
+use Rattle.entry_search.specs.Search.{BoxRuns, boxesFrom, cellsFrom, passes, longRun, passedWhole}
 use Rattle.entry_setup.specs.Tables.{IsTask}
-use Rattle.entry_search.proofs.Successors.{looked-refused, looked-fine}
+use Rattle.entry_search.proofs.Successors.{looked-refused, looked-fine, passes-met}
 use Rattle.entry_search.proofs.Searching.{open-box, shut-box, end-search, skip, holds, stops}
 
 -- before box b, with so many looked up and no refusal found: the definition goes on from there with that count. The search began with count
@@ -100,8 +104,10 @@ module _ {s : List ℕ} {task : Task} (is : IsTask s task) {count b looked : ℕ
 
 -- the first run of a box
 pub first-run : {s : List ℕ} {task : Task} {b : ℕ} {starts : List ℕ} {n size count looked : ℕ} → InBox s task b starts n size
-    → AtBox s task count looked b → AtRun s task count b starts n size looked 0
-first-run box at =
+    → AtBox s task count looked b → AtRun s task count b starts n size (looked + 0) 0
+first-run {looked} box at =
+    let none : looked + 0 ≡ looked = omega arith in
+    rw none
     record {
       box = box;
       place = skips (box .task-is) (omega arith) (box .list .inside 0) (λ c ge lt. box .list .before c lt) (opens (box .task-is) (box .exists) at);
@@ -162,17 +168,17 @@ module _ {s : List ℕ} {task : Task} {count b : ℕ} {starts : List ℕ} {n siz
     follow : follows s (task .entry) b d ≡ true
     follow = at .box .list .all i (at .run) d (at .from) (omega (arith, at .end-is))
 
-    pub refuses : {found : Report} → (k ≡ 0 → ⊥) → found ≡ result k (task .entry) d 0 → Answers s task count (counted found (looked + 1))
-    refuses z e =
+    pub refuses : {found : Report} (total : ℕ) → (k ≡ 0 → ⊥) → found ≡ result k (task .entry) d 0 → total ≡ looked + 1 → Answers s task count (counted found total)
+    refuses total z e sum =
         let same = looked-refused s (task .entry) d (looked + 1) k-is z in
         let bad : successorFault s (task .entry) d (looked + 1) .number ≡ 0 → ⊥ = λ w. z (ap (λ (q : Report). q .number) same ∙ w) in
         let K = at .box .task-is in (
-          ap (λ (r : Report). counted r (looked + 1)) e ∙ same ∙ stops s (task .entry) b d looked inside follow bad (at .place .rest),
+          rw sum (ap (λ (r : Report). counted r (looked + 1)) e ∙ same ∙ stops s (task .entry) b d looked inside follow bad (at .place .rest)),
           omega (arith, at .place .most, run-fits, at .box .exists, K .cells-most, K .boxes-most),
         )
 
-    pub passes : k ≡ 0 → InRun s task count b starts n size (looked + 1) i end (d + 1)
-    passes z =
+    pub goes-on : k ≡ 0 → InRun s task count b starts n size (looked + 1) i end (d + 1)
+    goes-on z =
         record {
           box = at .box;
           place =
@@ -186,3 +192,28 @@ module _ {s : List ℕ} {task : Task} {count b : ℕ} {starts : List ℕ} {n siz
           from = omega (arith, at .from);
           to = omega arith;
         }
+
+-- from cell d of a run on, all of the run passes or it is left for a look cell by cell
+module _ {s : List ℕ} {task : Task} {count b : ℕ} {starts : List ℕ} {n size i end : ℕ} where
+  -- the same place, its count or cell written otherwise
+  pub same-place : {looked d total c : ℕ} → InRun s task count b starts n size looked i end d → total ≡ looked → c ≡ d
+      → InRun s task count b starts n size total i end c
+  same-place at counts cells = rw (counts, cells) at
+
+  over : (k : ℕ) {looked d : ℕ} → InRun s task count b starts n size looked i end d → d + k ≡ end → everyFrom end (passes s (task .entry)) d ≡ true
+      → InRun s task count b starts n size (looked + k) i end (d + k)
+  over zero at e all = same-place at (omega arith) (omega arith)
+  over (suc k) {looked} {d} at e all =
+      let both = and-both _ _ (sym (every-turn end d (passes s (task .entry)) (omega arith)) ∙ all) in
+      let one = goes-on at (omega arith) (passes-met s (task .entry) d (both .0)) refl in
+      same-place (over k one (omega arith) (both .1)) (omega arith) (omega arith)
+
+  pub whole-run : {looked d passed : ℕ} → InRun s task count b starts n size looked i end d → passed ≡ passedWhole s (task .entry) d end
+      → InRun s task count b starts n size (looked + passed) i end (d + passed)
+  unfolding passedWhole
+  whole-run {looked} {d} {passed} at is = go (leb longRun (end - d) && everyFrom end (passes s (task .entry)) d) refl is
+    where
+      go : (all : Bool) → (leb longRun (end - d) && everyFrom end (passes s (task .entry)) d) ≡ all → passed ≡ pick all (end - d) 0
+          → InRun s task count b starts n size (looked + passed) i end (d + passed)
+      go true all p = over passed at (omega (arith, at .to)) (and-both (leb longRun (end - d)) (everyFrom end (passes s (task .entry)) d) all .1)
+      go false all p = same-place at (omega arith) (omega arith)

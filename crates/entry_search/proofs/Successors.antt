@@ -4,7 +4,7 @@ use mathlib.Core.List.{List}
 use mathlib.Core.Bool.{Bool, true, false, not, _&&_, _||_}
 use mathlib.Core.Path.{_≡_, refl, sym, ap, _∙_}
 use native.Mathlib.Omega.{arith}
-use borrow.Author.Tests.{lt-ltb, le-ltb, le-leb, leb-true, leb-false, ne-eqb, eqb-false, not-true}
+use borrow.Author.Tests.{lt-ltb, le-ltb, le-leb, lt-leb, leb-true, leb-false, ne-eqb, eqb-true, eqb-false, not-true}
 use lib.Dec.{eqb, leb, ltb}
 use lib.ListN.{getD}
 use Rattle.certificate.specs.Loops.{pick}
@@ -17,6 +17,7 @@ use Rattle.judging.specs.Lookup.{entryFor, isListed}
 use Rattle.rank_tables.specs.Index.{rankAt, RanksOf}
 use Rattle.judging.specs.EntryTests.{isLower, successorFault}
 use Rattle.entry_setup.specs.Tables.{boundFor, IsTask}
+use Rattle.entry_search.specs.Search.{passes}
 
 -- a successor's refusal is known by its number
 module _ (s : List ℕ) (e d n : ℕ) where
@@ -94,13 +95,31 @@ module _ {s : List ℕ} {task : Task} (is : IsTask s task) (ranks : List ℕ) (t
         ∙ sym (by-bound (task .rank) v v-most)
         ∙ ap (leb v) (sym (is .bound-is))
 
-    pub is-higher : (not (eqb v 0) && leb v (task .bound)) ≡ false → 15 ≡ successorFault s (task .entry) d 0 .number
+    pub is-higher : {bound : ℕ} → bound ≡ task .bound → (not (eqb v 0) && leb v bound) ≡ false → 15 ≡ successorFault s (task .entry) d 0 .number
     unfolding successorFault
-    is-higher h = rw (need-pass _ _ _ (full .0), need-fail _ _ _ (lower ∙ (rw (ne-eqb v 0 there) at h)))
+    is-higher same h = rw (need-pass _ _ _ (full .0), need-fail _ _ _ (lower ∙ (rw (ne-eqb v 0 there, same) at h)))
 
-  pub is-met : (not (eqb v 0) && leb v (task .bound)) ≡ true → 0 ≡ successorFault s (task .entry) d 0 .number
+  pub is-met : {bound : ℕ} → bound ≡ task .bound → (not (eqb v 0) && leb v bound) ≡ true → 0 ≡ successorFault s (task .entry) d 0 .number
   unfolding successorFault
-  is-met h =
+  is-met same h =
       let p = and-both _ _ h in
       let there = eqb-false v 0 (not-true _ (p .0)) in
-      rw (need-pass _ _ _ (full there .0), need-pass _ _ _ (lower there ∙ p .1))
+      rw (need-pass _ _ _ (full there .0), need-pass _ _ _ (lower there ∙ (rw same at p .1)))
+
+  -- passing is having no number
+  pub none-passes : v ≡ 0 → passes s (task .entry) d ≡ false
+  unfolding passes
+  none-passes z = rw (sym (is-unlisted z))
+
+  module _ (there : v ≡ 0 → ⊥) {bound : ℕ} (same : bound ≡ task .bound) where
+    pub higher-passes : bound < v → passes s (task .entry) d ≡ false
+    unfolding passes
+    higher-passes h = rw (sym (is-higher there same (rw (ne-eqb v 0 there) (lt-leb v bound h))))
+
+    pub lower-passes : v ≤ bound → passes s (task .entry) d ≡ true
+    unfolding passes
+    lower-passes h = rw (sym (is-met same (rw (ne-eqb v 0 there) (le-leb v bound h))))
+
+pub passes-met : (s : List ℕ) (e d : ℕ) → passes s e d ≡ true → 0 ≡ successorFault s e d 0 .number
+unfolding passes
+passes-met s e d h = sym (eqb-true _ 0 h)

@@ -1,18 +1,19 @@
 -- What judging finds out once of a certificate, once of an entry, and once of an entry under an arrival box; and the parts of judging
 -- that single functions answer for.
-use Prim.Native.Nat.{ℕ, _+_, _≤_, _<_}
+use Prim.Native.Nat.{ℕ, _+_, _-_, _≤_, _<_}
 use mathlib.Core.List.{List}
-use mathlib.Core.Bool.{true, false}
+use mathlib.Core.Bool.{Bool, true, false, _&&_}
 use mathlib.Core.Path.{_≡_}
+use lib.Dec.{eqb, leb}
 use Rattle.certificate.specs.declared.Report.{Report}
-use Rattle.certificate.specs.Loops.{loopFrom}
+use Rattle.certificate.specs.Loops.{pick, everyFrom, loopFrom}
 use Rattle.certificate.specs.Layout.{linksOf, cellsOf, boxesOf, cellOf}
 use Rattle.network.specs.Network.{entryLimit}
 use Rattle.grid.specs.Successors.{imageLow, imageHigh}
 use Rattle.grid.specs.Laws.{ImageOf}
 use Rattle.octets.specs.Tables.{Holds}
 use Rattle.successors.specs.Ranges.{startAt}
-use Rattle.judging.specs.EntryTests.{follows, cellRound, boxRound, accepted}
+use Rattle.judging.specs.EntryTests.{follows, successorFault, cellRound, boxRound, accepted}
 
 -- the image of entry e's cell under its signal and box b: low and high are its ends, and it is the smallest box (grid `ImageOf`)
 pub record EntryImage (s : List ℕ) (e b : ℕ) (low high : List ℕ) : Type 0 where
@@ -37,3 +38,15 @@ boxesFrom s e b n = loopFrom (boxRound s e) accepted (boxesOf s) b n
 -- the same from cell d of box b on
 unfoldable pub cellsFrom : List ℕ → ℕ → ℕ → ℕ → ℕ → Report
 cellsFrom s e b d n = loopFrom (cellRound s e b) (boxesFrom s e (b + 1)) (cellsOf s) d n
+
+-- successor d of entry e is listed with the next mode and its rank is lower
+unfoldable pub passes : List ℕ → ℕ → ℕ → Bool
+passes s e d = eqb (successorFault s e d 0 .number) 0
+
+-- a run of so many cells is taken as a whole first
+abbrev pub longRun : ℕ
+longRun = 16
+
+-- the cells first .. end - 1 as successors of entry e, taken as a whole: how many they are, where these are many and every one passes, else 0
+unfoldable pub passedWhole : List ℕ → ℕ → ℕ → ℕ → ℕ
+passedWhole s e first end = pick (leb longRun (end - first) && everyFrom end (passes s e) first) (end - first) 0

@@ -1,15 +1,15 @@
-// The successors of an entry under one arrival box, as runs of cells. `before` has the ends of the entry's image before arrivals.
+// The successors of an entry under one arrival box, as runs of cells.
 ghost use mathlib.Core.Path.{_≡_};
 ghost use Prim.Native.Nat.{ℕ, _+_, _*_, _<_, _≤_, min};
 ghost use lib.ListN.{getD, length};
 ghost use Rattle.certificate.specs.Layout.{maxBoxes, maxCells, maxLinks, linksOf, boxesOf, entriesOf};
 ghost use Rattle.network.specs.Laws.{Screened};
-ghost use Rattle.entry_setup.specs.Tables.{arrivalRow, CapsOf, ArrivalsOf, TablesOf, EntryEnds, IsTask};
+ghost use Rattle.cell_tables.specs.Tables.{GridOf, EdgesOf};
+ghost use Rattle.entry_setup.specs.Tables.{arrivalRow, CapsOf, ArrivalsOf, EntryEnds, IsTask};
 ghost use Rattle.entry_search.specs.Search.{EntryImage, BoxRuns};
 ghost use Rattle.images.specs.Ends.{endBound};
 use cell_tables::tables as edges_table;
 use certificate::limits;
-use entry_setup::LinkTables;
 use entry_setup::Task;
 use entry_setup::amounts;
 use images::ends;
@@ -23,19 +23,18 @@ fn ends_under(
     before: &[usize; limits::MAX_LINKS],
     arrivals: &[usize; amounts::ARRIVALS],
     at: usize,
-) -> [usize; limits::MAX_LINKS]
-    requires { ⌜ (links ≤ maxLinks) × (at + 2 * maxLinks ≤ maxBoxes * arrivalRow + 1) × ((l : ℕ) → l < links → (getD (now before) l 0 ≤ endBound) × (getD (now arrivals) (at + 2 * l) 0 ≤ endBound)) ⌝ }
-    ensures { λ r. ⌜ ((l : ℕ) → l < links → getD r l 0 ≡ min (getD (now (caps .entry)) l 0) (getD (now (before .entry)) l 0 + getD (now (arrivals .entry)) (at + 2 * l) 0)) ⌝ }
+    ends: &mut [usize; limits::MAX_LINKS],
+)
+    requires { ⌜ (links ≤ maxLinks) × (at + 2 * maxLinks ≤ maxBoxes * arrivalRow + 1) × ((l : ℕ) → l < links → (getD (now before) l 0 ≤ endBound) × (getD (now arrivals) (at + 2 * l) 0 ≤ endBound)) × (length (now ends) ≡ maxLinks) ⌝ }
+    ensures { λ _. ⌜ (length (now (ends .exit)) ≡ maxLinks) × ((l : ℕ) → l < links → getD (now (ends .exit)) l 0 ≡ min (getD (now (caps .entry)) l 0) (getD (now (before .entry)) l 0 + getD (now (arrivals .entry)) (at + 2 * l) 0)) ⌝ }
 {
-    let mut r = [0usize; limits::MAX_LINKS];
     for l in 0..links {
-        r[l] = ends::end_of(caps[l], before[l], arrivals[at + 2 * l]);
+        ends[l] = ends::end_of(caps[l], before[l], arrivals[at + 2 * l]);
     }
-    r
 }
 
 // The image of entry e's cell under its signal and box b: the smallest closed box that holds all exact next queues. `low` and `high`
-// are its ends before arrivals.
+// are its ends before arrivals; `from` and `to` receive its ends.
 fn image_of<'a>(
     s: &[u8],
     links: usize,
@@ -45,53 +44,58 @@ fn image_of<'a>(
     high: &'a [usize; limits::MAX_LINKS],
     e: usize,
     b: usize,
-) -> ends::Ends
-    requires { ⌜ Screened (now s) × (links ≡ linksOf (now s)) × CapsOf (now s) (now caps) × ArrivalsOf (now s) (now arrivals) × EntryEnds (now s) e (now low) (now high) × (e < entriesOf (now s)) × (b < boxesOf (now s)) ⌝ }
-    ensures { λ r. ⌜ EntryImage (now (s .entry)) e b (r .low) (r .high) ⌝ }
+    from: &mut [usize; limits::MAX_LINKS],
+    to: &mut [usize; limits::MAX_LINKS],
+)
+    requires { ⌜ Screened (now s) × (links ≡ linksOf (now s)) × CapsOf (now s) (now caps) × ArrivalsOf (now s) (now arrivals) × EntryEnds (now s) e (now low) (now high) × (e < entriesOf (now s)) × (b < boxesOf (now s)) × (length (now from) ≡ maxLinks) × (length (now to) ≡ maxLinks) ⌝ }
+    ensures { λ _. ⌜ EntryImage (now (s .entry)) e b (now (from .exit)) (now (to .exit)) × (length (now (from .exit)) ≡ maxLinks) × (length (now (to .exit)) ≡ maxLinks) ⌝ }
 {
-    let from = ends_under(links, caps, low, arrivals, amounts::ARRIVAL_ROW * b);
-    let to = ends_under(links, caps, high, arrivals, amounts::ARRIVAL_ROW * b + 1);
-    ends::Ends {
-        low: from,
-        high: to,
-    }
+    ends_under(links, caps, low, arrivals, amounts::ARRIVAL_ROW * b, from);
+    ends_under(
+        links,
+        caps,
+        high,
+        arrivals,
+        amounts::ARRIVAL_ROW * b + 1,
+        to,
+    );
 }
 
-// The runs of successors of an entry under box b: `runs` is filled with their starts.
-pub fn box_runs(
+// The runs of successors of an entry under box b: `runs` is filled with their starts. `low` and `high` are the ends of the entry's image
+// before arrivals.
+pub fn box_runs<'a, 'b>(
     s: &[u8],
     task: Task,
-    tables: LinkTables,
+    links: usize,
+    caps: &'a [usize; limits::MAX_LINKS],
+    counts: &'a [usize; limits::MAX_LINKS],
+    weights: &'a [usize; limits::MAX_LINKS],
     edges: &[usize; edges_table::EDGES],
     arrivals: &[usize; amounts::ARRIVALS],
-    before: ends::Ends,
+    low: &'b [usize; limits::MAX_LINKS],
+    high: &'b [usize; limits::MAX_LINKS],
     b: usize,
     runs: &mut [u16],
 ) -> starts::Runs
-    requires { ⌜ TablesOf (now s) tables (now edges) (now arrivals) × IsTask (now s) task × EntryEnds (now s) (task .entry) (before .low) (before .high) × (b < task .boxes) × (length (now runs) ≡ maxCells) ⌝ }
+    requires { ⌜ Screened (now s) × GridOf (now s) (now counts) (now weights) links × CapsOf (now s) (now caps) × EdgesOf (now s) (now edges) × ArrivalsOf (now s) (now arrivals) × IsTask (now s) task × EntryEnds (now s) (task .entry) (now low) (now high) × (b < task .boxes) × (length (now runs) ≡ maxCells) ⌝ }
     ensures { λ r. ⌜ (length (now (runs .exit)) ≡ maxCells) × BoxRuns (now (s .entry)) (task .entry) b (now (runs .exit)) (r .count) (r .size) ⌝ }
 {
-    let links = tables.links;
-    let e = task.entry;
-    let image = image_of(
+    let mut from = [0usize; limits::MAX_LINKS];
+    let mut to = [0usize; limits::MAX_LINKS];
+    image_of(
         s,
         links,
-        &tables.caps,
+        caps,
         arrivals,
-        &before.low,
-        &before.high,
-        e,
+        low,
+        high,
+        task.entry,
         b,
+        &mut from,
+        &mut to,
     );
-    let r = ranges::ranges_of(s, edges, &tables.counts, links, &image.low, &image.high);
-    starts::runs_of(
-        s,
-        &tables.counts,
-        &tables.weights,
-        &r.first,
-        &r.last,
-        links,
-        task.cells,
-        runs,
-    )
+    let mut first = [0usize; limits::MAX_LINKS];
+    let mut last = [0usize; limits::MAX_LINKS];
+    ranges::ranges_of(s, edges, counts, links, &from, &to, &mut first, &mut last);
+    starts::runs_of(s, counts, weights, &first, &last, links, task.cells, runs)
 }

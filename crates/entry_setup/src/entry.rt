@@ -25,7 +25,7 @@ use road_records::links;
 use road_records::signals;
 
 // The greatest number of 32 bits: nothing in the table of ranks is above it.
-const ANY_RANK: usize = 4294967295;
+const ANY_RANK: u32 = 4294967295;
 
 pub struct Edges {
     pub lower: [usize; limits::MAX_LINKS],
@@ -33,13 +33,14 @@ pub struct Edges {
 }
 
 // The most that the table of ranks, which has them raised by one, may have for a successor of an entry of that rank.
-fn bound_for(rank: usize) -> usize
+fn bound_for(rank: usize) -> u32
+    requires { ⌜ rank < 65536 ⌝ }
     ensures { λ r. ⌜ r ≡ boundFor rank ⌝ }
 {
     if rank == 0 {
         return ANY_RANK;
     }
-    rank
+    rank as u32
 }
 
 // The task of entry e.

@@ -15,7 +15,7 @@ pub struct Task {
     pub entry: usize,
     pub row: usize,
     pub rank: usize,
-    pub bound: usize,
+    pub bound: u32,
 }
 
 // What judging knows of the links, once for a certificate: how many there are, and for each how many intervals it has, how many

@@ -1,15 +1,12 @@
 -- What `list` answers, from the verdict and the layout. Assumes nothing.
 use Prim.Native.Nat.{ℕ}
 use mathlib.Core.List.{List}
-use mathlib.Core.Path.{_≡_, sym, _∙_, ap}
+use mathlib.Core.Path.{_≡_}
 use native.Mathlib.Omega.{arith}
 use Rattle.certificate.specs.declared.Report.{Report}
 use Rattle.reading.specs.declared.Reading.{Reading}
 use Rattle.reading.specs.ReadingResults.{ReadAs}
-use Rattle.network.specs.Conditions.{screeningOf}
-use Rattle.network.proofs.Screening.{screening-is-plain}
 use Rattle.judging.specs.Verdict.{verdictOf}
-use Rattle.judging.proofs.Verdicts.{accepted-is-plain}
 use Rattle.listing.specs.Entries.{EntriesAt}
 use Rattle.listing_text.specs.Listing.{acceptedText, listingOf, Sent}
 use Rattle.listing_text.specs.Lines.{refusedLine}
@@ -24,9 +21,8 @@ module _ (s : List ℕ) (r : Report) (verdict : r ≡ verdictOf s) {buffer after
   list-accepted z h = listed s verdict (rw (text-accepted s r z) h)
 
 -- an accepted certificate's layout says where its entries begin
-pub entries-at : (s : List ℕ) (r : Report) (found : Reading) → r ≡ verdictOf s → r .number ≡ 0 → ReadAs s (screeningOf s) found
-    → EntriesAt s (found .layout .«entries_start»)
-entries-at s r found verdict z read =
-    let screened : screeningOf s .number ≡ 0 = screening-is-plain s .1 (accepted-is-plain s .0 (rw verdict at z) .0) in
-    let Y = read .laid (rw (read .report-is) screened) in
+pub entries-at : (s : List ℕ) (judged : Reading) → ReadAs s (verdictOf s) judged → judged .report .number ≡ 0
+    → EntriesAt s (judged .layout .«entries_start»)
+entries-at s judged read z =
+    let Y = read .laid z in
     record { bound = Y .entries-start-most; place = Y .entries-start-is; most = omega (arith, Y .entries-are, Y .entries-most) }

@@ -13,11 +13,11 @@ pub const MAX_TEXT: usize = 60 + 23 * limits::MAX_ENTRIES + 20;
 pub fn list(s: &[u8], buffer: &mut [u8]) -> Report
     ensures { λ r. ⌜ Sent (listingOf (now (s .entry))) (now (buffer .entry)) (now (buffer .exit)) r ⌝ }
 {
-    let report = verdict::judge(s);
+    let judged = verdict::judge_with_layout(s);
+    let report = judged.report;
     if report.number != 0 {
         return render::render_refused(report, buffer);
     }
-    let found = screening::screen(s);
-    let layout = found.layout;
+    let layout = judged.layout;
     render::render_accepted(s, layout.entries_start, report, buffer)
 }

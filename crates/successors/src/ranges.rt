@@ -2,8 +2,9 @@
 ghost use mathlib.Core.Path.{_≡_};
 ghost use Prim.Native.Nat.{_+_, _*_, _<_};
 ghost use lib.Dec.{leb};
+ghost use lib.ListN.{length};
 ghost use Rattle.certificate.specs.Loops.{pick};
-ghost use Rattle.certificate.specs.Layout.{linksOf, intervalsOf};
+ghost use Rattle.certificate.specs.Layout.{maxLinks, linksOf, intervalsOf};
 ghost use Rattle.certificate.specs.Facts.{Readable};
 ghost use Rattle.grid.specs.Intervals.{upperEdge};
 ghost use Rattle.cell_tables.specs.Tables.{edgeRow, EdgesOf, CountsOf};
@@ -11,15 +12,10 @@ ghost use Rattle.successors.specs.Ranges.{IsFirst, IsLast, RangesOf};
 use cell_tables::tables;
 use certificate::limits;
 
-// The range of one link, and those of all.
+// The range of one link.
 struct Range {
     first: usize,
     last: usize,
-}
-
-pub struct Ranges {
-    pub first: [usize; limits::MAX_LINKS],
-    pub last: [usize; limits::MAX_LINKS],
 }
 
 // The upper edge of interval i of link l: the lower edge of the next.
@@ -68,6 +64,7 @@ fn range_of(
     Range { first, last }
 }
 
+// The ranges of all links: `first` and `last` receive them.
 pub fn ranges_of<'a>(
     s: &[u8],
     edges: &[usize; tables::EDGES],
@@ -75,16 +72,15 @@ pub fn ranges_of<'a>(
     links: usize,
     low: &'a [usize; limits::MAX_LINKS],
     high: &'a [usize; limits::MAX_LINKS],
-) -> Ranges
-    requires { ⌜ Readable (now s) × EdgesOf (now s) (now edges) × CountsOf (now s) (now counts) × (links ≡ linksOf (now s)) ⌝ }
-    ensures { λ r. ⌜ RangesOf (now (s .entry)) (now (low .entry)) (now (high .entry)) (r .first) (r .last) ⌝ }
+    first: &mut [usize; limits::MAX_LINKS],
+    last: &mut [usize; limits::MAX_LINKS],
+)
+    requires { ⌜ Readable (now s) × EdgesOf (now s) (now edges) × CountsOf (now s) (now counts) × (links ≡ linksOf (now s)) × (length (now first) ≡ maxLinks) × (length (now last) ≡ maxLinks) ⌝ }
+    ensures { λ _. ⌜ RangesOf (now (s .entry)) (now (low .entry)) (now (high .entry)) (now (first .exit)) (now (last .exit)) × (length (now (first .exit)) ≡ maxLinks) × (length (now (last .exit)) ≡ maxLinks) ⌝ }
 {
-    let mut first = [0; limits::MAX_LINKS];
-    let mut last = [0; limits::MAX_LINKS];
     for l in 0..links {
         let r = range_of(s, edges, l, counts[l], low[l], high[l]);
         first[l] = r.first;
         last[l] = r.last;
     }
-    Ranges { first, last }
 }

@@ -4,7 +4,7 @@ ghost use Prim.Native.Nat.{_+_, _*_, _<_, _≤_};
 ghost use lib.ListN.{length};
 ghost use Rattle.certificate.specs.Layout.{maxBoxes, maxModes, maxCells, entriesOf, boxesOf, cellsOf};
 ghost use Rattle.certificate.specs.Facts.{Readable};
-ghost use Rattle.reading.specs.ReadingResults.{LaidOut};
+ghost use Rattle.reading.specs.ReadingResults.{LaidOut, ReadAs};
 ghost use Rattle.network.specs.Laws.{Screened};
 ghost use Rattle.supply.specs.Supply.{FirstTurns};
 ghost use Rattle.cell_tables.specs.Tables.{GridOf, DigitsOf};
@@ -26,6 +26,7 @@ use entry_setup::standing;
 use rank_tables::index;
 use rank_tables::ranks;
 use reading::Layout;
+use reading::Reading;
 
 // One entry judged alone: its standing, then its successors.
 fn judge_entry(
@@ -152,14 +153,27 @@ fn judge_screened(s: &[u8], layout: Layout) -> Report
     )
 }
 
-// The verdict.
-pub fn judge(s: &[u8]) -> Report
-    ensures { λ r. ⌜ (r ≡ verdictOf (now (s .entry))) × (r .count ≤ entriesOf (now (s .entry)) * boxesOf (now (s .entry)) * cellsOf (now (s .entry))) ⌝ }
+// The verdict, and the layout where it is no refusal.
+pub fn judge_with_layout(s: &[u8]) -> Reading
+    ensures { λ r. ⌜ ReadAs (now (s .entry)) (verdictOf (now (s .entry))) r ⌝ }
 {
     let found = screening::screen(s);
     let f = found.report;
     if f.number != 0 {
-        return f;
+        return found;
     }
-    judge_screened(s, found.layout)
+    let layout = found.layout;
+    let report = judge_screened(s, layout);
+    if report.number != 0 {
+        return reading::refused(report);
+    }
+    Reading { report, layout }
+}
+
+// The verdict.
+pub fn judge(s: &[u8]) -> Report
+    ensures { λ r. ⌜ (r ≡ verdictOf (now (s .entry))) × (r .count ≤ entriesOf (now (s .entry)) * boxesOf (now (s .entry)) * cellsOf (now (s .entry))) ⌝ }
+{
+    let found = judge_with_layout(s);
+    found.report
 }

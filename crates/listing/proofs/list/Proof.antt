@@ -4,8 +4,8 @@ use borrow.Author.Needs.{needs}
 use Rattle.listing.proofs.list.Statement.{statement}
 use Rattle.listing.proofs.list.Tie as tie
 
-judge-requires : tie.Need-judge-requires
-judge-requires c κs = search needs
+judge-with-layout-requires : tie.Need-judge-with-layout-requires
+judge-with-layout-requires c κs = search needs
 
 render-refused-requires : tie.Need-render-refused-requires
 render-refused-requires c κs = search needs
@@ -15,9 +15,6 @@ same-length c = search needs
 
 returns : tie.Need-returns
 returns c = search list-refused
-
-screen-requires : tie.Need-screen-requires
-screen-requires c κs = search needs
 
 render-accepted-requires : tie.Need-render-accepted-requires
 render-accepted-requires c κs = search entries-at
@@ -32,11 +29,10 @@ pub list-spec : {M : Type 1} → statement M
 list-spec =
     tie.close
     (tie.spec
-    judge-requires
+    judge-with-layout-requires
     render-refused-requires
     same-length
     returns
-    screen-requires
     render-accepted-requires
     same-length-2
     returns-2)

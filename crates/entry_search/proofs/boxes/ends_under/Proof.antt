@@ -1,6 +1,5 @@
 -- `entry_search::boxes::ends_under` meets its contract. Assumes nothing.
 use Prim.Native.Nat.{_+_, _*_, _-_, min}
-use mathlib.Core.Path.{refl}
 use native.Mathlib.Omega.{arith}
 use borrow.Author.Count.{below-none}
 use borrow.Author.Needs.{needs}
@@ -10,13 +9,13 @@ use Rattle.entry_search.proofs.boxes.ends_under.Statement.{statement}
 use Rattle.entry_search.proofs.boxes.ends_under.Tie as tie
 
 abbrev Inv-loop : tie.InvT-loop
-Inv-loop links caps before arrivals at r₀ l₀ r l = Filled 8 l (λ k. min (getD caps k 0) (getD before k 0 + getD arrivals (at + 2 * k) 0)) r
+Inv-loop links caps before arrivals at ends₀ l₀ ends l = Filled 8 l (λ k. min (getD caps k 0) (getD before k 0 + getD arrivals (at + 2 * k) 0)) ends
 
 abbrev μ-loop : tie.MeasureT-loop
-μ-loop links caps before arrivals at r₀ l₀ r l = links - l
+μ-loop links caps before arrivals at ends₀ l₀ ends l = links - l
 
 loop-holds : tie.Need-loop-holds Inv-loop μ-loop
-loop-holds c = (refl, below-none _)
+loop-holds c = (c .pre .3, below-none _)
 
 mul-end-of : tie.Need-mul-end-of Inv-loop μ-loop
 mul-end-of c = search needs
@@ -45,11 +44,11 @@ element-copy-out-end-of-3 c = search needs
 end-of-requires : tie.Need-end-of-requires Inv-loop μ-loop
 end-of-requires c κs = c .before .before .before .before .before .pre .2 (c .before .before .before .before .loop .l) (c .before .before .before .loop-test .taken)
 
-mul-r : tie.Need-mul-r Inv-loop μ-loop
-mul-r c = search needs
+mul-ends : tie.Need-mul-ends Inv-loop μ-loop
+mul-ends c = search needs
 
-array-write-r : tie.Need-array-write-r Inv-loop μ-loop
-array-write-r c = search needs
+element-write-ends : tie.Need-element-write-ends Inv-loop μ-loop
+element-write-ends c = search needs
 
 add-l : tie.Need-add-l Inv-loop μ-loop
 add-l c = search needs
@@ -59,10 +58,10 @@ loop-less c = search needs
 
 loop-again : tie.Need-loop-again Inv-loop μ-loop
 loop-again c = let w = c .before .before .before .before .before in
-    filled-more 8 _ _ (w .loop .r) _ (w .loop .inv) (omega (arith, c .before .before .before .before .before .before .pre .0)) (c .end-of .ensures)
+    filled-more 8 _ _ (w .loop .ends) _ (w .loop .inv) (omega (arith, c .before .before .before .before .before .before .pre .0)) (c .end-of .ensures)
 
 returns : tie.Need-returns Inv-loop μ-loop
-returns c = λ k lt. c .before .loop .inv .1 k (omega arith)
+returns c = (c .before .loop .inv .0, λ k lt. c .before .loop .inv .1 k (omega arith))
 
 pub ends-under-spec : {M : Type 1} → statement M
 ends-under-spec =
@@ -80,8 +79,8 @@ ends-under-spec =
     mul-end-of-4
     element-copy-out-end-of-3
     end-of-requires
-    mul-r
-    array-write-r
+    mul-ends
+    element-write-ends
     add-l
     loop-less
     loop-again

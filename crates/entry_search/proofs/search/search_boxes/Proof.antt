@@ -1,37 +1,37 @@
 -- `entry_search::search::search_boxes` meets its contract: at every place, what is found from there on with what was counted is what the
 -- definition finds. Assumes nothing.
-use Prim.Native.Nat.{_-_}
+use Prim.Native.Nat.{_+_, _-_}
 use mathlib.Core.Path.{_≡_}
 use native.Mathlib.Omega.{arith}
 use lib.ListN.{length}
 use borrow.Author.Needs.{needs}
 use Rattle.certificate.specs.Checks.{fine}
-use Rattle.entry_search.proofs.Places.{AtBox, AtRun, InRun, begins, ends, first-run, last-run, run-fits, count-most, run-begins, run-ends, refuses, passes}
+use Rattle.entry_search.proofs.Places.{AtBox, AtRun, InRun, begins, ends, first-run, last-run, run-fits, count-most, run-begins, run-ends, refuses, goes-on, same-place, whole-run}
 use Rattle.entry_search.proofs.search.search_boxes.Statement.{statement}
 use Rattle.entry_search.proofs.search.search_boxes.Tie as tie
 
 abbrev Inv-loop2 : tie.InvT-loop2
-Inv-loop2 s task tables ranks edges arrivals runs before count found₀ looked₀ b n size i d₀ end b-end found looked d =
-    InRun s task count b runs n size looked i end d × (found ≡ fine)
+Inv-loop2 s task ranks edges arrivals runs count tables before links found₀ total₀ b n size looked₀ i d₀ end passed b-end found total looked d =
+    InRun s task count b runs n size (total + looked) i end d × (found ≡ fine)
 
 abbrev μ-loop2 : tie.MeasureT-loop2
-μ-loop2 s task tables ranks edges arrivals runs before count found₀ looked₀ b n size i d₀ end b-end found looked d =
+μ-loop2 s task ranks edges arrivals runs count tables before links found₀ total₀ b n size looked₀ i d₀ end passed b-end found total looked d =
     end - d
 
 abbrev Inv-loop : tie.InvT-loop
-Inv-loop s task tables ranks edges arrivals runs before count found₀ looked₀ b n size i₀ b-end found looked i =
-    AtRun s task count b runs n size looked i × (found ≡ fine)
+Inv-loop s task ranks edges arrivals runs count tables before links found₀ total₀ b n size looked₀ i₀ b-end found total looked i =
+    AtRun s task count b runs n size (total + looked) i × (found ≡ fine)
 
 abbrev μ-loop : tie.MeasureT-loop
-μ-loop s task tables ranks edges arrivals runs before count found₀ looked₀ b n size i₀ b-end found looked i =
+μ-loop s task ranks edges arrivals runs count tables before links found₀ total₀ b n size looked₀ i₀ b-end found total looked i =
     n - i
 
 abbrev Inv-search : tie.InvT-search
-Inv-search s task tables ranks edges arrivals runs₀ before count found₀ looked₀ b₀ b-end runs found looked b =
-    AtBox s task count looked b × (found ≡ fine) × (length runs ≡ 4096)
+Inv-search s task ranks edges arrivals runs₀ count tables before links found₀ total₀ b₀ b-end runs found total b =
+    AtBox s task count total b × (found ≡ fine) × (length runs ≡ 4096)
 
 abbrev μ-search : tie.MeasureT-search
-μ-search s task tables ranks edges arrivals runs₀ before count found₀ looked₀ b₀ b-end runs found looked b =
+μ-search s task ranks edges arrivals runs₀ count tables before links found₀ total₀ b₀ b-end runs found total b =
     task .boxes - b
 
 accept-requires : tie.Need-accept-requires Inv-loop2 μ-loop2 Inv-loop μ-loop Inv-search μ-search
@@ -43,14 +43,15 @@ search-holds c = (begins _ _ _ (c .before .before .before .pre .4), c .accept .e
 box-runs-requires :
     tie.Need-box-runs-requires Inv-loop2 μ-loop2 Inv-loop μ-loop Inv-search μ-search
 box-runs-requires c κs =
-    let p = c .before .before .before .before .before .before .pre in
-    (p .0, p .2, p .3, c .before .search-test .taken, c .before .before .search .inv .2)
+    let p = c .before .before .before .before .before .before .before .before .before .before .before .before .before .pre in
+    let T = p .0 in
+    (T .screened, T .grid, T .cap, T .edge, T .arrival, p .2, p .3, c .before .before .before .before .before .before .before .before .search-test .taken, c .before .before .before .before .before .before .before .before .before .search .inv .2)
 
 loop-holds : tie.Need-loop-holds Inv-loop2 μ-loop2 Inv-loop μ-loop Inv-search μ-search
 loop-holds c =
     let r = c .before .before .box-runs .ensures in
-    let at = c .before .before .before .before .before .search .inv in
-    (first-run (record { task-is = c .before .before .before .before .before .before .before .before .before .pre .2; exists = c .before .before .before .before .search-test .taken; list = r .1; sized = r .0 }) (at .0), at .1)
+    let at = c .before .before .before .before .before .before .before .before .before .before .before .before .search .inv in
+    (first-run (record { task-is = c .before .before .before .before .before .before .before .before .before .before .before .before .before .before .before .before .pre .2; exists = c .before .before .before .before .before .before .before .before .before .before .before .search-test .taken; list = r .1; sized = r .0 }) (at .0), at .1)
 
 mul-wide-pair : tie.Need-mul-wide-pair Inv-loop2 μ-loop2 Inv-loop μ-loop Inv-search μ-search
 mul-wide-pair c =
@@ -72,17 +73,42 @@ add-end c =
     let at = run-begins (c .before .before .before .loop .inv .0) (c .before .before .loop-test .taken) (c .wide-pair .ensures .0) in
     omega (arith, run-fits at, at .box .task-is .cells-most)
 
-loop2-holds : tie.Need-loop2-holds Inv-loop2 μ-loop2 Inv-loop μ-loop Inv-search μ-search
-loop2-holds c = (run-begins (c .before .before .before .loop .inv .0) (c .before .before .loop-test .taken) (c .wide-pair .ensures .0), c .before .before .before .loop .inv .1)
+passed-whole-requires :
+    tie.Need-passed-whole-requires Inv-loop2 μ-loop2 Inv-loop μ-loop Inv-search μ-search
+passed-whole-requires c κs =
+    let at = run-begins (c .before .before .before .loop .inv .0) (c .before .before .loop-test .taken) (c .wide-pair .ensures .0) in
+    (at .box .task-is, c .before .before .before .before .before .before .before .before .before .before .before .before .before .before .before .before .before .before .before .before .pre .1, at .to, run-fits at)
 
 add-looked : tie.Need-add-looked Inv-loop2 μ-loop2 Inv-loop μ-loop Inv-search μ-search
-add-looked c = omega (arith, count-most (c .before .loop2 .inv .0))
+add-looked c =
+    let at = run-begins (c .before .before .before .before .loop .inv .0) (c .before .before .before .loop-test .taken) (c .before .wide-pair .ensures .0) in
+    omega (arith, count-most (whole-run at (c .passed-whole .ensures)))
+
+wide-quad-requires : tie.Need-wide-quad-requires Inv-loop2 μ-loop2 Inv-loop μ-loop Inv-search μ-search
+wide-quad-requires c κs = search needs
+
+add-d : tie.Need-add-d Inv-loop2 μ-loop2 Inv-loop μ-loop Inv-search μ-search
+add-d c =
+    let at = run-begins (c .before .before .before .before .before .loop .inv .0) (c .before .before .before .before .loop-test .taken) (c .before .before .wide-pair .ensures .0) in
+    let past = whole-run at (c .before .passed-whole .ensures) in
+    omega (arith, past .to, run-fits past, past .box .task-is .cells-most, c .wide-quad .ensures .0)
+
+loop2-holds : tie.Need-loop2-holds Inv-loop2 μ-loop2 Inv-loop μ-loop Inv-search μ-search
+loop2-holds c =
+    let at = run-begins (c .before .before .before .before .before .loop .inv .0) (c .before .before .before .before .loop-test .taken) (c .before .before .wide-pair .ensures .0) in
+    (same-place (whole-run at (c .before .passed-whole .ensures)) (omega arith) (omega (arith, c .wide-quad .ensures .0)), c .before .before .before .before .before .loop .inv .1)
+
+add-looked-2 : tie.Need-add-looked-2 Inv-loop2 μ-loop2 Inv-loop μ-loop Inv-search μ-search
+add-looked-2 c = omega (arith, count-most (c .before .loop2 .inv .0))
 
 successor-number-requires :
     tie.Need-successor-number-requires Inv-loop2 μ-loop2 Inv-loop μ-loop Inv-search μ-search
 successor-number-requires c κs =
     let at = c .before .loop2 .inv .0 in
-    (at .box .task-is, c .before .before .before .before .before .before .before .before .before .before .before .before .before .before .before .pre .1, omega (arith, c .loop2-test .taken, run-fits at))
+    (at .box .task-is, c .before .before .before .before .before .before .before .before .before .before .before .before .before .before .before .before .before .before .before .before .before .before .before .before .pre .1, omega (arith, c .loop2-test .taken, run-fits at))
+
+add-total : tie.Need-add-total Inv-loop2 μ-loop2 Inv-loop μ-loop Inv-search μ-search
+add-total c = omega (arith, count-most (c .before .before .before .loop2 .inv .0))
 
 report-requires : tie.Need-report-requires Inv-loop2 μ-loop2 Inv-loop μ-loop Inv-search μ-search
 report-requires c κs =
@@ -90,8 +116,8 @@ report-requires c κs =
     let K = at .box .task-is in
     (omega (arith, K .entry-most), omega (arith, at .place .inside, K .cells-most))
 
-add-d : tie.Need-add-d Inv-loop2 μ-loop2 Inv-loop μ-loop Inv-search μ-search
-add-d c =
+add-d-2 : tie.Need-add-d-2 Inv-loop2 μ-loop2 Inv-loop μ-loop Inv-search μ-search
+add-d-2 c =
     let at = c .before .before .before .loop2 .inv .0 in
     omega (arith, at .place .inside, at .box .task-is .cells-most)
 
@@ -101,7 +127,7 @@ loop2-less c = omega (arith, c .before .before .loop2-test .taken)
 loop2-again : tie.Need-loop2-again Inv-loop2 μ-loop2 Inv-loop μ-loop Inv-search μ-search
 loop2-again c =
     let w = c .before .before .before .loop2 .inv in
-    (passes (w .0) (c .before .before .loop2-test .taken) (c .before .successor-number .ensures) (c .if1 .left), w .1)
+    (same-place (goes-on (w .0) (c .before .before .loop2-test .taken) (c .before .successor-number .ensures) (c .if1 .left)) (omega arith) (omega arith), w .1)
 
 add-i : tie.Need-add-i Inv-loop2 μ-loop2 Inv-loop μ-loop Inv-search μ-search
 add-i c =
@@ -114,6 +140,13 @@ loop-less c = omega (arith, c .before .loop2 .inv .0 .run)
 
 loop-again : tie.Need-loop-again Inv-loop2 μ-loop2 Inv-loop μ-loop Inv-search μ-search
 loop-again c = (run-ends (c .before .loop2 .inv .0) (c .loop2-test .left), c .before .loop2 .inv .1)
+
+add-total-2 : tie.Need-add-total-2 Inv-loop2 μ-loop2 Inv-loop μ-loop Inv-search μ-search
+add-total-2 c =
+    let at = c .before .loop .inv .0 in
+    let K = at .box .task-is in
+    let next = last-run at (c .loop-test .left) in
+    omega (arith, next .most, next .inside, K .boxes-most, K .entry-most)
 
 add-b : tie.Need-add-b Inv-loop2 μ-loop2 Inv-loop μ-loop Inv-search μ-search
 add-b c =
@@ -138,12 +171,13 @@ returns c =
     (r .0, r .1, at .2)
 
 same-length-2 : tie.Need-same-length-2 Inv-loop2 μ-loop2 Inv-loop μ-loop Inv-search μ-search
-same-length-2 c = omega (arith, c .before .before .before .before .loop2 .inv .0 .box .sized, c .before .before .before .before .before .before .before .before .before .before .before .before .before .before .before .before .before .before .pre .5)
+same-length-2 c = omega (arith, c .before .before .before .before .loop2 .inv .0 .box .sized, c .before .before .before .before .before .before .before .before .before .before .before .before .before .before .before .before .before .before .before .before .before .before .before .before .before .before .before .pre .5)
 
 returns-2 : tie.Need-returns-2 Inv-loop2 μ-loop2 Inv-loop μ-loop Inv-search μ-search
 returns-2 c =
-    let at = c .before .before .before .before .loop2 .inv .0 in
-    let r = refuses at (c .before .before .before .loop2-test .taken) (c .before .before .successor-number .ensures) (c .before .if1 .taken) (c .report .ensures) in
+    let here = c .before .before .before .before .loop2 in
+    let at = here .inv .0 in
+    let r = refuses at (c .before .before .before .loop2-test .taken) (c .before .before .successor-number .ensures) (here .total + (here .looked + 1)) (c .before .if1 .taken) (c .report .ensures) (omega arith) in
     (r .0, r .1, at .box .sized)
 
 pub search-boxes-spec : {M : Type 1} → statement M
@@ -164,16 +198,22 @@ search-boxes-spec =
     slice-read-wide-pair
     wide-pair-requires
     add-end
-    loop2-holds
+    passed-whole-requires
     add-looked
-    successor-number-requires
-    report-requires
+    wide-quad-requires
     add-d
+    loop2-holds
+    add-looked-2
+    successor-number-requires
+    add-total
+    report-requires
+    add-d-2
     loop2-less
     loop2-again
     add-i
     loop-less
     loop-again
+    add-total-2
     add-b
     search-less
     search-again

@@ -1,6 +1,5 @@
 -- `successors::ranges::ranges_of` meets its contract. The loop fills both tables link by link. Assumes nothing.
 use Prim.Native.Nat.{_-_}
-use mathlib.Core.Path.{refl}
 use native.Mathlib.Omega.{arith}
 use borrow.Author.Count.{below-none}
 use lib.ListN.{getD}
@@ -17,7 +16,7 @@ abbrev μ-loop : tie.MeasureT-loop
 μ-loop s edges counts links low high first₀ last₀ l₀ first last l = links - l
 
 loop-holds : tie.Need-loop-holds Inv-loop μ-loop
-loop-holds c = ((refl, below-none _), (refl, below-none _))
+loop-holds c = ((c .before .pre .4, below-none _), (c .before .pre .5, below-none _))
 
 mul-range-of : tie.Need-mul-range-of Inv-loop μ-loop
 mul-range-of c = omega arith
@@ -45,14 +44,14 @@ range-of-requires c κs = let l = c .before .before .before .before in
 mul-first : tie.Need-mul-first Inv-loop μ-loop
 mul-first c = omega arith
 
-array-write-first : tie.Need-array-write-first Inv-loop μ-loop
-array-write-first c = omega arith
+element-write-first : tie.Need-element-write-first Inv-loop μ-loop
+element-write-first c = omega arith
 
 mul-last : tie.Need-mul-last Inv-loop μ-loop
 mul-last c = omega arith
 
-array-write-last : tie.Need-array-write-last Inv-loop μ-loop
-array-write-last c = omega arith
+element-write-last : tie.Need-element-write-last Inv-loop μ-loop
+element-write-last c = omega arith
 
 add-l : tie.Need-add-l Inv-loop μ-loop
 add-l c = omega arith
@@ -71,10 +70,13 @@ loop-again c = let l = c .before .before .before .before .before in
 
 returns : tie.Need-returns Inv-loop μ-loop
 returns c = let l = c .before in
-    let a = c .before .before .before in
-    range-meets (a .args .s .now) (a .args .low .now) (a .args .high .now) (l .loop .first) (l .loop .last)
-    (λ k lt. l .loop .inv .0 .1 k (omega arith))
-    (λ k lt. l .loop .inv .1 .1 k (omega arith))
+    let a = c .before .before .before in (
+      range-meets (a .args .s .now) (a .args .low .now) (a .args .high .now) (l .loop .first) (l .loop .last)
+          (λ k lt. l .loop .inv .0 .1 k (omega arith))
+          (λ k lt. l .loop .inv .1 .1 k (omega arith)),
+      l .loop .inv .0 .0,
+      l .loop .inv .1 .0,
+    )
 
 pub ranges-of-spec : {M : Type 1} → statement M
 ranges-of-spec =
@@ -91,9 +93,9 @@ ranges-of-spec =
     element-copy-out-range-of-3
     range-of-requires
     mul-first
-    array-write-first
+    element-write-first
     mul-last
-    array-write-last
+    element-write-last
     add-l
     loop-less
     loop-again
