@@ -1,5 +1,4 @@
--- What judging finds out once of a certificate, once of an entry, and once of an entry under an arrival box; and the parts of judging
--- that single functions answer for.
+-- What judging finds out once of an entry under an arrival box, and the parts of judging that single functions answer for.
 use Prim.Native.Nat.{ℕ, _+_, _-_, _≤_, _<_}
 use mathlib.Core.List.{List}
 use mathlib.Core.Bool.{Bool, true, false, _&&_}

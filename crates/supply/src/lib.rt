@@ -1,5 +1,5 @@
-// What links may send, and what they have room for. `start` is where the records of turns begin; `lower` and `upper` have a
-// queue for each link.
+// Where each link's turns begin, and what the links that they lead into have room for. `start` is where the records of turns begin;
+// `lower` and `upper` have a queue for each link.
 ghost use mathlib.Core.Path.{_≡_};
 ghost use Prim.Native.Nat.{_+_, _*_, _<_, _≤_, min, max};
 ghost use lib.Dec.{leb, eqb};
