@@ -9,10 +9,10 @@ use Rattle.controller.proofs.Controller.holding.Statement.{statement}
 use Rattle.controller.proofs.Controller.holding.Tie as tie
 
 slice-aggregate-put : tie.Need-slice-aggregate-put
-slice-aggregate-put c = sym (length-replicate {A = ℕ} 37763 0)
+slice-aggregate-put c = sym (length-replicate {A = ℕ} maxLength 0)
 
 put-requires : tie.Need-put-requires
-put-requires c κs = (le-refl _, rw (length-replicate {A = ℕ} 37763 0) (c .before .before .pre))
+put-requires c κs = (le-refl _, rw (length-replicate {A = ℕ} maxLength 0) (c .before .before .pre))
 
 returns : tie.Need-returns
 returns c = rw (c .before .put .ensures, copied-all maxLength (c .before .before .before .before .args .s .now))
