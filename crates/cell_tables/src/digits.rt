@@ -2,6 +2,7 @@
 // one weight of cells later, and the same again one round of its intervals later, so each is found by one before it.
 ghost use mathlib.Core.Path.{_≡_};
 ghost use Prim.Native.Nat.{_*_, _<_};
+ghost use lib.ListN.{length};
 ghost use Rattle.certificate.specs.Layout.{maxLinks, maxCells, cellsOf};
 ghost use Rattle.octets.specs.Tables.{Holds};
 ghost use Rattle.cell_tables.specs.Tables.{GridOf, digitEntry, DigitsOf};
@@ -37,19 +38,19 @@ fn digit_at(
     digits[k - limits::MAX_LINKS * round]
 }
 
-pub fn digits_of(
+// Fills the table, cell by cell.
+pub fn fill_digits(
     s: &[u8],
     counts: &[usize; limits::MAX_LINKS],
     weights: &[usize; limits::MAX_LINKS],
     links: usize,
     cells: usize,
-) -> [u8; DIGITS]
-    requires { ⌜ GridOf (now s) (now counts) (now weights) links × (cells ≡ cellsOf (now s)) ⌝ }
-    ensures { λ r. ⌜ DigitsOf (now (s .entry)) r ⌝ }
+    digits: &mut [u8; DIGITS],
+)
+    requires { ⌜ GridOf (now s) (now counts) (now weights) links × (cells ≡ cellsOf (now s)) × (length (now digits) ≡ maxLinks * maxCells) ⌝ }
+    ensures { λ _. ⌜ DigitsOf (now (s .entry)) (now (digits .exit)) ⌝ }
 {
-    let mut digits = [0u8; DIGITS];
     for k in 0..limits::MAX_LINKS * cells {
-        digits[k] = digit_at(s, counts, weights, links, &digits, k);
+        digits[k] = digit_at(s, counts, weights, links, &*digits, k);
     }
-    digits
 }

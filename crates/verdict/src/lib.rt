@@ -135,7 +135,8 @@ fn judge_screened(s: &[u8], layout: Layout) -> Report
     let tables = link_tables(s, layout);
     let counts = tables.counts;
     let weights = tables.weights;
-    let digits = cells::digits_of(s, &counts, &weights, links, layout.cells);
+    let mut digits = [0u8; cells::DIGITS];
+    cells::fill_digits(s, &counts, &weights, links, layout.cells, &mut digits);
     let edges = tables::edges_of(s, &places, links);
     let arrivals = amounts::arrivals_of(s, layout.arrivals_start, links, layout.boxes);
     let mut ranks = [0u32; ranks::RANKS];

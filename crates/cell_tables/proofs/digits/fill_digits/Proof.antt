@@ -1,14 +1,13 @@
--- `cell_tables::digits::digits_of` meets its contract. The loop fills the table entry by entry. Assumes nothing.
+-- `cell_tables::digits::fill_digits` meets its contract. The loop fills the table entry by entry. Assumes nothing.
 use Prim.Native.Nat.{_-_, _*_, _≤_}
-use mathlib.Core.Path.{refl}
 use native.Mathlib.Omega.{arith}
 use borrow.Author.Count.{below-none}
 use Rattle.certificate.proofs.Size.{cells-in-range}
 use Rattle.octets.proofs.FilledTables.{Filled, filled-more}
 use Rattle.cell_tables.specs.Tables.{digitEntry}
 use Rattle.cell_tables.proofs.Filling.{digits-filled}
-use Rattle.cell_tables.proofs.digits.digits_of.Statement.{statement}
-use Rattle.cell_tables.proofs.digits.digits_of.Tie as tie
+use Rattle.cell_tables.proofs.digits.fill_digits.Statement.{statement}
+use Rattle.cell_tables.proofs.digits.fill_digits.Tie as tie
 
 abbrev Inv-loop : tie.InvT-loop
 Inv-loop s counts weights links cells digits₀ k₀ k-end digits k = (k-end ≤ 32768) × Filled 32768 k (digitEntry s) digits
@@ -20,14 +19,14 @@ mul-k-end : tie.Need-mul-k-end Inv-loop μ-loop
 mul-k-end c = let a = c .before in omega (arith, cells-in-range (a .args .s .now) (a .pre .0 .readable))
 
 loop-holds : tie.Need-loop-holds Inv-loop μ-loop
-loop-holds c = let a = c .before in (omega (arith, cells-in-range (a .args .s .now) (a .pre .0 .readable)), (refl, below-none _))
+loop-holds c = let a = c .before in (omega (arith, cells-in-range (a .args .s .now) (a .pre .0 .readable)), (c .before .pre .2, below-none _))
 
 digit-at-requires : tie.Need-digit-at-requires Inv-loop μ-loop
 digit-at-requires c κs = let w = c .before .before .loop .inv in
     (c .before .before .before .before .pre .0, omega (arith, w .0, c .before .loop-test .taken), w .1 .1)
 
-array-write-digits : tie.Need-array-write-digits Inv-loop μ-loop
-array-write-digits c = omega arith
+element-write-digits : tie.Need-element-write-digits Inv-loop μ-loop
+element-write-digits c = omega arith
 
 add-k : tie.Need-add-k Inv-loop μ-loop
 add-k c = omega arith
@@ -41,8 +40,8 @@ loop-again c = let l = c .before .before .before in (l .loop .inv .0, filled-mor
 returns : tie.Need-returns Inv-loop μ-loop
 returns c = let a = c .before .before .before in digits-filled (a .args .s .now) (a .pre .0 .readable) (c .before .loop .digits) (8 * a .args .cells) (omega arith) (λ k lt. c .before .loop .inv .1 .1 k (omega arith))
 
-pub digits-of-spec : {M : Type 1} → statement M
-digits-of-spec =
+pub fill-digits-spec : {M : Type 1} → statement M
+fill-digits-spec =
     tie.close
     (tie.spec
     Inv-loop
@@ -50,7 +49,7 @@ digits-of-spec =
     mul-k-end
     loop-holds
     digit-at-requires
-    array-write-digits
+    element-write-digits
     add-k
     loop-less
     loop-again
