@@ -25,7 +25,7 @@ module _ (s : List ℕ) (found : Reading) (screened : ReadAs s (screeningOf s) f
   judge-goes-on z = (screening-is-plain s .0 (rw (screened .report-is) at z), screened .laid z)
 
   module _ (z : found .report .number ≡ 0) (r : Report) (r-is : r ≡ judgingFrom s 0 0) where
-    pub verdict-is : r ≡ verdictOf s
+    verdict-is : r ≡ verdictOf s
     unfolding verdictOf
     verdict-is = second _ _ _ _ (screened .report-is) z r-is
 
@@ -39,5 +39,6 @@ module _ (s : List ℕ) (found : Reading) (screened : ReadAs s (screeningOf s) f
     judge-accepts ok = record { report-is = verdict-is; laid = λ w. screened .laid z; none = λ bad. absurd (bad ok) }
 
 -- a verdict has its count within entries × boxes × cells
-pub counted : (s : List ℕ) (r : Report) → r ≡ verdictOf s → (r ≡ verdictOf s) × (r .count ≤ entriesOf s * boxesOf s * cellsOf s)
-counted s r e = (e, rw e (count-fits s))
+pub judge-answers : (s : List ℕ) (found : Reading) → ReadAs s (verdictOf s) found
+    → (found .report ≡ verdictOf s) × (found .report .count ≤ entriesOf s * boxesOf s * cellsOf s)
+judge-answers s found judged = (judged .report-is, rw (judged .report-is) (count-fits s))

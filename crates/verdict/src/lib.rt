@@ -175,10 +175,6 @@ pub fn judge_with_layout(s: &[u8]) -> Reading
 pub fn judge(s: &[u8]) -> Report
     ensures { λ r. ⌜ (r ≡ verdictOf (now (s .entry))) × (r .count ≤ entriesOf (now (s .entry)) * boxesOf (now (s .entry)) * cellsOf (now (s .entry))) ⌝ }
 {
-    let found = screening::screen(s);
-    let f = found.report;
-    if f.number != 0 {
-        return f;
-    }
-    judge_screened(s, found.layout)
+    let found = judge_with_layout(s);
+    found.report
 }
