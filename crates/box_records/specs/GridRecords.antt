@@ -23,7 +23,7 @@ pub record GridsLaid (s : List ℕ) (n : ℕ) (places : List ℕ) (stop cells : 
   pub place : (l : ℕ) → l < n → getD places l 0 ≡ gridAt s l
   pub no-place : (l : ℕ) → n ≤ l → getD places l 0 ≡ 0
   pub end-is : stop ≡ gridAt s n
-  pub end-most : stop ≤ 50000 + gridSize maxIntervals * n
+  pub end-most : stop ≤ gridsBound + gridSize maxIntervals * n
   pub cells-are : cells ≡ productOf s n
   pub cells-least : 1 ≤ cells
   pub cells-most : cells ≤ maxCells

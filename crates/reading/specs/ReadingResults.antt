@@ -14,16 +14,16 @@ use Rattle.certificate.specs.Layout.{maxLinks, maxTurns, maxSignals, maxModes, 
 use Rattle.certificate.specs.Records.{endFault}
 use Rattle.certificate.specs.Reading.{linksFault, turnsFault, signalsFault, gridsFault, arrivalsFault, entriesFault}
 use Rattle.octets.specs.Tables.{tableOf}
-use Rattle.octets.specs.Bounds.{startBound}
+use Rattle.octets.specs.Bounds.{gridsBound, startBound}
 
 -- where the records of turns, signals and grids begin
 pub record StartsOf (s : List ℕ) (starts : Starts) : Type 0 where
   pub turns-is : starts .turns ≡ turnsStart s
-  pub turns-most : starts .turns ≤ 50000
+  pub turns-most : starts .turns ≤ gridsBound
   pub signals-is : starts .signals ≡ signalsStart s
-  pub signals-most : starts .signals ≤ 50000
+  pub signals-most : starts .signals ≤ gridsBound
   pub grids-is : starts .grids ≡ gridStart s
-  pub grids-most : starts .grids ≤ 50000
+  pub grids-most : starts .grids ≤ gridsBound
 
 -- where the grid record of link l stands, and 0 where there is no such link
 abbrev pub gridPlace : List ℕ → ℕ → ℕ
