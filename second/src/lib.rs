@@ -2,6 +2,7 @@
 //!
 //! Every step takes the plainest way: images by all corners of a cell, successors by testing every cell.
 
+pub mod amount;
 pub mod cases;
 pub mod certificate;
 pub mod conditions;
@@ -11,6 +12,7 @@ pub mod grid;
 pub mod image;
 pub mod judging;
 pub mod listing;
+pub mod poll;
 pub mod reading;
 pub mod report;
 pub mod state;

@@ -1,6 +1,7 @@
 //! The stream of calls for a test program, and what that program must print.
 
 use second::cases::{expected, hash, stream};
+use second::state::Answer;
 use second::{listing, Report, State};
 use std::fs;
 use std::path::{Path, PathBuf};
@@ -63,8 +64,19 @@ impl<'a> Player<'a> {
         let count = self.number(2);
         let queues: Vec<u32> = (0..count).map(|_| self.number(4) as u32).collect();
         let answer = self.state.query(&queues, scale);
+        self.answer("query", answer);
+    }
+
+    fn poll(&mut self) {
+        let bytes = self.counted_bytes();
+        assert!(bytes.len() <= 1_024);
+        let answer = self.state.poll(bytes);
+        self.answer("poll", answer);
+    }
+
+    fn answer(&mut self, call: &str, answer: Answer) {
         self.line(format!(
-            "query {} signal {} green {} mode {}",
+            "{call} {} signal {} green {} mode {}",
             answer.report, answer.signal, answer.green, self.state.mode
         ));
     }
@@ -100,6 +112,7 @@ fn play(stream: &[u8]) -> String {
             b'S' => player.hand(),
             b'L' => player.load(),
             b'Q' => player.query(),
+            b'P' => player.poll(),
             b'W' => player.write(),
             b'T' => player.list(),
             b'E' => break,
@@ -154,6 +167,9 @@ case two
   state p length 4294967298 mode 3
   query scale 65536 queues 1 4294967295
   query scale 1 queues none
+  poll 4014000000000000 fault FE
+  poll bytes 01 02 FF
+  poll bytes none
   write buffer 1 start 0
   list q
 ";
@@ -165,12 +181,15 @@ case one
 case two
   query 18 0 0 0 signal 0 green 00 mode 3
   query 0 1 2 3 signal 4 green FE mode 5
+  poll 21 7 2 3 signal 15 green FD mode 255
+  poll 18 0 0 0 signal 0 green 00 mode 3
+  poll 20 1 0 0 signal 0 green 00 mode 0
   write 0 1 0 0 holds q from 0
   list
   | refused 1 0 0 0
 ";
 
-/// Byte for byte, and by the due results alone: two of them are not what a checker would answer.
+/// Byte for byte, and by the due results alone: some of them are not what a checker would answer.
 #[test]
 fn small_stream() {
     let folder = folder("stream-small", SMALL, SMALL_DUE);
@@ -180,12 +199,16 @@ fn small_stream() {
     due.extend(head);
     due.extend(b"ABZZ\0\0\0\x01\0\0\0\x02\x03");
     due.extend(b"Q\0\x01\0\0\0\x02\0\0\0\x01\xFF\xFF\xFF\xFFQ\0\0\0\x01\0\0");
+    due.extend(b"P\0\0\0\x12\0\x40\x14\0\0\0\0\0\0\x01\xFE\0\0\0\0\0\0\0");
+    due.extend(b"P\0\0\0\x03\x01\x02\xFFP\0\0\0\0");
     due.extend(b"W\0\0\0\x01\0\0\0\0\0\0\0\0T\0\0\0\x01HE");
     assert_eq!(stream(&folder).unwrap(), due);
     let (kept, held) = (hash(&[3, 10, 17]), hash(b"H"));
     let text = format!(
         "case 0\nload 1 0 0 0 mode 0 length 0\nwrite 18 0 0 0 sum {kept}\n\
          case 1\nquery 18 0 0 0 signal 0 green 0 mode 3\nquery 0 1 2 3 signal 4 green 254 mode 5\n\
+         poll 21 7 2 3 signal 15 green 253 mode 255\npoll 18 0 0 0 signal 0 green 0 mode 3\n\
+         poll 20 1 0 0 signal 0 green 0 mode 0\n\
          write 0 1 0 0 sum {held}\nlist 0 16 0 0\nrefused 1 0 0 0\n"
     );
     assert_eq!(expected(&folder).unwrap(), text);
@@ -229,4 +252,16 @@ fn due_certificate_without_room() {
     let message = "x.cases:4: expected a buffer with room for the due certificate";
     assert!(expected(&folder).unwrap_err().ends_with(message));
     assert!(stream(&folder).is_ok());
+}
+
+/// 1,024 bytes may stand in a poll, no more.
+#[test]
+fn longest_poll() {
+    let case = |count: usize| format!("case c\n  poll bytes{}\n", " 00".repeat(count));
+    let due = "case c\n  poll 18 0 0 0 signal 0 green 00 mode 0\n";
+    plays(&folder("stream-poll-fits", &case(1_024), due));
+    let long = folder("stream-poll-long", &case(1_025), due);
+    let message = "x.cases:2: expected at most 1024 bytes, found 1025 in a poll";
+    assert!(stream(&long).unwrap_err().ends_with(message));
+    assert!(expected(&long).unwrap_err().ends_with(message));
 }

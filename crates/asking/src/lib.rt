@@ -25,16 +25,22 @@ pub struct Found {
 }
 
 // A refusal: nothing is shown, and the mode stays.
-fn not_found(number: u8, mode: u8) -> Found
-    ensures { λ r. ⌜ r ≡ notFound (refusal number 0) mode ⌝ }
+pub fn turned_back(report: Report, mode: u8) -> Found
+    ensures { λ r. ⌜ r ≡ notFound report mode ⌝ }
 {
-    let report = octets::refuse(number, 0);
     Found {
         report,
         signal: 0,
         green: 0,
         mode,
     }
+}
+
+// A refusal that names no place.
+pub fn not_found(number: u8, mode: u8) -> Found
+    ensures { λ r. ⌜ r ≡ notFound (refusal number 0) mode ⌝ }
+{
+    turned_back(octets::refuse(number, 0), mode)
 }
 
 // What entry e says.

@@ -4,6 +4,7 @@
 //   S n bytes length mode      a state made by hand: these stored bytes, then zeros; its length; its mode
 //   L n bytes                  load
 //   Q scale count queues       query, each queue four bytes wide
+//   P n bytes                  poll
 //   W size start               write into a buffer of this size
 //   T n bytes                  listing
 use libc::STDIN_FILENO;
@@ -146,12 +147,12 @@ fn read_write() -> Call {
     }
 }
 
-// The call whose mark was read: F, S, L, Q, W or T.
+// The call whose mark was read: F, S, L, Q, P, W or T.
 pub fn read_call(mark: u8, bytes: &mut [u8], queues: &mut [u32]) -> Call {
     match mark {
         b'F' => with(mark, 0),
         b'S' => read_state(bytes),
-        b'L' | b'T' => with(mark, counted(bytes)),
+        b'L' | b'P' | b'T' => with(mark, counted(bytes)),
         b'Q' => read_query(queues),
         b'W' => read_write(),
         _ => with(mark, BROKEN),

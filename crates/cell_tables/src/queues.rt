@@ -30,7 +30,7 @@ fn interval_at(s: &[u8], o: usize, scale: usize, x: usize) -> usize
 }
 
 // The number of the links so far with one link more, which counts fastest.
-fn with_link(cell: usize, count: usize, i: usize) -> usize
+pub fn with_link(cell: usize, count: usize, i: usize) -> usize
     requires { ⌜ cell * count + i ≤ maxCells ⌝ }
     ensures { λ r. ⌜ r ≡ cell * count + i ⌝ }
 {

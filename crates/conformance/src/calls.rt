@@ -1,11 +1,14 @@
 // The calls under test: each is made on what the stream gave, and its line of results is printed:
 //   load NUMBER A B COUNT mode M length N
 //   query NUMBER A B COUNT signal S green G mode M
+//   poll NUMBER A B COUNT signal S green G mode M
 //   write NUMBER A B COUNT sum H
 //   list NUMBER A B COUNT, then the text
 // H is the hash of the whole buffer after the call. All numbers are decimal.
 use case_output::buffer;
+use certificate::Report;
 use controller::Controller;
+use roadside::polling;
 
 pub fn do_load(state: Controller, bytes: &[u8]) -> Controller {
     let loaded = state.load(bytes);
@@ -17,14 +20,26 @@ pub fn do_load(state: Controller, bytes: &[u8]) -> Controller {
     next
 }
 
+// The line of a query or a poll.
+fn print_shown(name: &[u8], report: Report, signal: u8, green: u8, mode: u8) {
+    case_output::report(name, report);
+    case_output::small(b" signal ", signal);
+    case_output::small(b" green ", green);
+    case_output::small(b" mode ", mode);
+    case_output::text(b"\n");
+}
+
 pub fn do_query(state: Controller, queues: &[u32], scale: u32) -> Controller {
     let shown = state.query(queues, scale);
     let next = shown.state;
-    case_output::report(b"query", shown.report);
-    case_output::small(b" signal ", shown.signal);
-    case_output::small(b" green ", shown.green);
-    case_output::small(b" mode ", next.mode);
-    case_output::text(b"\n");
+    print_shown(b"query", shown.report, shown.signal, shown.green, next.mode);
+    next
+}
+
+pub fn do_poll(state: Controller, poll: &[u8]) -> Controller {
+    let shown = polling::poll(state, poll);
+    let next = shown.state;
+    print_shown(b"poll", shown.report, shown.signal, shown.green, next.mode);
     next
 }
 

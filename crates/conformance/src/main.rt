@@ -32,6 +32,7 @@ fn answer(
         b'S' => made(parts::front(bytes, n), call.start, call.mode),
         b'L' => calls::do_load(state, parts::front(bytes, n)),
         b'Q' => calls::do_query(state, parts::front_numbers(queues, n), call.scale),
+        b'P' => calls::do_poll(state, parts::front(bytes, n)),
         b'W' => {
             calls::do_write(state, lent, n, call.start);
             state

@@ -21,7 +21,7 @@ use Rattle.asking.specs.FoundEntries.{storedFault, foundAt, notFound, cellFound
 use Rattle.controller.specs.Parts.{shownBy}
 
 -- the first n bytes of a state's array are a certificate exactly where they pass
-holds-test : (bytes : List ℕ) (n : ℕ) → length bytes ≡ maxLength → isCertificate bytes n ≡ eqb (storedFault bytes n .number) 0
+pub holds-test : (bytes : List ℕ) (n : ℕ) → length bytes ≡ maxLength → isCertificate bytes n ≡ eqb (storedFault bytes n .number) 0
 unfolding isCertificate storedFault need
 holds-test bytes n size = rw size (go (leb n maxLength))
   where

@@ -1,5 +1,5 @@
 -- When a state holds a certificate: a fresh one does not, and one that an accepted load made does. Assumes nothing.
-use Prim.Native.Nat.{_≤_}
+use Prim.Native.Nat.{ℕ, _≤_}
 use mathlib.Core.Path.{_≡_}
 use native.Mathlib.Omega.{arith}
 use borrow.Author.Tests.{leb-true, le-leb, eqb-true, eq-eqb, ne-eqb}
@@ -9,8 +9,9 @@ use Rattle.certificate.proofs.Size.{readable-fits}
 use Rattle.network.proofs.Screening.{screening-is-plain}
 use Rattle.judging.specs.Verdict.{verdictOf}
 use Rattle.judging.proofs.Verdicts.{accepted-is-plain}
-use Rattle.controller.specs.State.{holding, stored, isCertificate, loadOf}
-use Rattle.controller.specs.Laws.{HoldsIsPlain, FreshHoldsNone, AcceptedHolds, LoadAccepted, LoadRefused}
+use Rattle.controller.specs.declared.Controller.{Controller}
+use Rattle.controller.specs.State.{holding, inMode, stored, isCertificate, loadOf}
+use Rattle.controller.specs.Laws.{HoldsCertificate, HoldsIsPlain, FreshHoldsNone, AcceptedHolds, LoadAccepted, LoadRefused}
 
 pub holds-is-plain : HoldsIsPlain
 unfolding isCertificate
@@ -18,6 +19,10 @@ holds-is-plain c = (
   (λ e. let h = and-both _ _ e in record { fits = leb-true _ _ (h .0); screened = screening-is-plain (stored c) .0 (eqb-true _ _ (h .1)) }),
   (λ h. both-and _ _ (le-leb _ _ (h .fits)) (eq-eqb _ _ (screening-is-plain (stored c) .1 (h .screened)))),
 )
+
+-- a certificate is held in every mode
+pub holds-in-mode : (c : Controller) (m : ℕ) → HoldsCertificate c → HoldsCertificate (inMode c m)
+holds-in-mode c m h = record { fits = h .fits; screened = h .screened }
 
 -- no bytes are stored, so there is not even a header
 pub fresh-holds-none : FreshHoldsNone

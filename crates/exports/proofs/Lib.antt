@@ -1,4 +1,3 @@
--- What stands at the front of a lent slice, how a call's contract follows, and slices of other lengths.
+-- What stands at the front of a lent slice, and how a call's contract follows.
 pub mod Front
 pub mod Answering
-pub mod Lengths

@@ -3,15 +3,11 @@
 use Prim.Native.Nat.{ℕ}
 use mathlib.Core.List.{List}
 use mathlib.Core.Path.{_≡_}
-use Rattle.certificate.specs.declared.Report.{Report}
-use Rattle.certificate.specs.Checks.{refusal, fine, need}
-use Rattle.judging.specs.Verdict.{verdictOf}
-use Rattle.controller.specs.declared.Shown.{Shown}
 use Rattle.controller.specs.State.{freshState, holding}
-use Rattle.controller.specs.Query.{queryOf}
 use Rattle.controller.specs.Write.{writeReport, writeBuffer}
 use Rattle.listing_text.specs.Listing.{listReport, listBuffer}
-use Rattle.packed_state.specs.State.{hasStateSize, heldIn, bytesAfter}
+use Rattle.packed_state.specs.State.{heldIn, bytesAfter}
+use Rattle.packed_state.specs.Held.{freshReport, loadReport, shownFor}
 use Rattle.exports.specs.Exported.{reportNumbers, shownNumbers, Called}
 
 -- a listing: the buffer
@@ -20,24 +16,15 @@ ListCall s buffer buffer' out out' r =
     Called (reportNumbers (listReport s buffer)) (listBuffer s buffer) buffer buffer' out out' r
 
 -- a fresh state; it has no `out`
-abbrev pub freshReport : List ℕ → Report
-freshReport state = need (hasStateSize state) (refusal 18 0) fine
-
 abbrev pub FreshCall : List ℕ → List ℕ → ℕ → Type 0
 FreshCall state state' r = (r ≡ freshReport state .number) × (state' ≡ bytesAfter (freshReport state .number) freshState state)
 
--- a load: 18 comes before the verdict's refusals; the next state holds its own copy
-abbrev pub loadReport : List ℕ → List ℕ → Report
-loadReport state s = need (hasStateSize state) (refusal 18 0) (verdictOf s)
-
+-- a load: the state holds its own copy
 abbrev pub LoadCall : List ℕ → List ℕ → List ℕ → List ℕ → List ℕ → ℕ → Type 0
 LoadCall s state state' out out' r =
     Called (reportNumbers (loadReport state s)) (bytesAfter (loadReport state s .number) (holding s) state) state state' out out' r
 
 -- a query of the state that is held
-abbrev pub shownFor : List ℕ → List ℕ → ℕ → Shown
-shownFor state queues scale = queryOf (heldIn state) queues scale
-
 abbrev pub QueryCall : List ℕ → ℕ → List ℕ → List ℕ → List ℕ → List ℕ → ℕ → Type 0
 QueryCall queues scale state state' out out' r =
     Called (shownNumbers (shownFor state queues scale))

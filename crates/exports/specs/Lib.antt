@@ -1,4 +1,3 @@
 -- What the calls for other languages answer, and every lent slice afterwards.
 pub mod Exported
 pub mod Calls
-pub mod Laws

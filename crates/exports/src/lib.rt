@@ -9,7 +9,7 @@ ghost use Rattle.judging.specs.Verdict.{verdictOf};
 ghost use Rattle.exports.specs.Exported.{reportNumbers, Answers};
 ghost use Rattle.exports.specs.Calls.{ListCall, FreshCall, LoadCall, QueryCall, WriteCall};
 use certificate::Report;
-use controller::Controller;
+use packed_state::held;
 
 // The four numbers of a report go to the front of `out`; the result is the report's number.
 fn put_report(report: Report, out: &mut [u32]) -> u32
@@ -76,16 +76,11 @@ pub extern "C" fn dergvost_list(s: &[u8], buffer: &mut [u8], out: &mut [u32]) ->
 pub extern "C" fn dergvost_fresh(state: &mut [u8]) -> u32
     ensures { λ r. ⌜ FreshCall (now (state .entry)) (now (state .exit)) r ⌝ }
 {
-    if !packed_state::has_state_size(state) {
-        return 18;
-    }
-    let fresh = Controller::fresh();
-    packed_state::pack(0, fresh, state);
-    0
+    let report = held::fresh(state);
+    report.number as u32
 }
 
 // Loads any bytes into the state that the first slice holds; any other length gets 18. A refusal leaves its bytes as they were.
-// An accepted load keeps nothing of the state before, so that state is not unpacked.
 #[no_mangle]
 pub extern "C" fn dergvost_load(state: &mut [u8], s: &[u8], out: &mut [u32]) -> u32
     ensures { λ r. ⌜ LoadCall (now (s .entry)) (now (state .entry)) (now (state .exit)) (now (out .entry)) (now (out .exit)) r ⌝ }
@@ -93,13 +88,7 @@ pub extern "C" fn dergvost_load(state: &mut [u8], s: &[u8], out: &mut [u32]) -> 
     if out.len() < 4 {
         return 255;
     }
-    if !packed_state::has_state_size(state) {
-        return put_report(octets::refuse(18, 0), out);
-    }
-    let loaded = Controller::fresh().load(s);
-    let judged = loaded.report;
-    let next = loaded.state;
-    packed_state::pack(judged.number, next, state);
+    let judged = held::load(state, s);
     put_report(judged, out)
 }
 
@@ -116,17 +105,8 @@ pub extern "C" fn dergvost_query(
     if out.len() < 6 {
         return 255;
     }
-    if !packed_state::has_state_size(state) {
-        return put_shown(octets::refuse(18, 0), 0, 0, out);
-    }
-    let held = packed_state::unpack(state);
-    let shown = held.query(queues, scale);
-    let report = shown.report;
-    let signal = shown.signal;
-    let green = shown.green;
-    let next = shown.state;
-    packed_state::pack(report.number, next, state);
-    put_shown(report, signal, green, out)
+    let shown = held::query(state, queues, scale);
+    put_shown(shown.report, shown.signal, shown.green, out)
 }
 
 // Writes the certificate that is held into a buffer from start on.

@@ -1,4 +1,5 @@
--- Eight bytes of a length, the copies, and the state unpacked again.
+-- Eight bytes of a length, the copies, the state unpacked again, and slices of other lengths.
 pub mod Octets
 pub mod Packing
 pub mod Passing
+pub mod Lengths

@@ -8,6 +8,8 @@ ghost use Rattle.octets.specs.Bounds.{entryBound};
 use controller::Controller;
 use octets::filling;
 
+pub mod held;
+
 // The bytes of the length.
 const LENGTH_SIZE: usize = 8;
 
@@ -21,7 +23,7 @@ const MODE_AT: usize = Controller::SIZE + LENGTH_SIZE;
 const STATE_SIZE: usize = Controller::SIZE + TAIL_SIZE;
 
 // The number of four bytes, high byte first.
-fn quad_at(s: &[u8], at: usize) -> usize
+pub fn quad_at(s: &[u8], at: usize) -> usize
     requires { ⌜ at ≤ entryBound ⌝ }
     ensures { λ r. ⌜ (r ≡ quadAt (now (s .entry)) at) × (r < 4294967296) ⌝ }
 {

@@ -25,15 +25,15 @@ module _ (D E x y n : ℕ) (d : 1 ≤ D) (equal : y * D ≡ x * E) where
   below : 1 ≤ E → x < D * n → y < E * n
   below e h = let over : y * D < E * n * D = omega (arith, mul-lt-mul-of-pos-right h e) in lt-of-mul-lt-mul-right D over
 
--- so equal queues lie in the same cell
+-- so equal queues lie in the same interval, and in the same cell
+pub same-interval : (s : List ℕ) {l i D E x y : ℕ} → 1 ≤ D → 1 ≤ E → y * D ≡ x * E → InInterval s l i D x → InInterval s l i E y
+same-interval s {D} {E} {x} {y} d e equal v =
+    record {
+      exists = v .exists;
+      lower = least D E x y _ d equal (v .lower);
+      upper = λ inner. below D E x y _ d equal e (v .upper inner);
+      cap = most D E x y _ d equal (v .cap);
+    }
+
 pub same-cell : (s : List ℕ) {c D E : ℕ} {x y : ℕ → ℕ} → 1 ≤ D → 1 ≤ E → ((l : ℕ) → l < linksOf s → y l * D ≡ x l * E) → InCell s c D x → InCell s c E y
-same-cell s {c} {D} {E} {x} {y} d e equal h = record { exists = h .exists; holds = λ l lt. same (equal l lt) (h .holds l lt) }
-  where
-    same : {l i p q : ℕ} → q * D ≡ p * E → InInterval s l i D p → InInterval s l i E q
-    same {p} {q} eq v =
-        record {
-          exists = v .exists;
-          lower = least D E p q _ d eq (v .lower);
-          upper = λ inner. below D E p q _ d eq e (v .upper inner);
-          cap = most D E p q _ d eq (v .cap);
-        }
+same-cell s d e equal h = record { exists = h .exists; holds = λ l lt. same-interval s d e (equal l lt) (h .holds l lt) }

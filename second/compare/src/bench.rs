@@ -51,6 +51,8 @@ pub fn bench(extent: Extent, mut show: impl FnMut(Row)) -> Result<(), String> {
     for sample in [&small, &largest] {
         time(Call::Query(Asked::First), &[sample])?;
         time(Call::Query(Asked::Last), &[sample])?;
+        time(Call::Poll(Asked::First), &[sample])?;
+        time(Call::Poll(Asked::Last), &[sample])?;
     }
     time(Call::Write, &all[..3])?;
     time(Call::List, listed)
@@ -65,12 +67,12 @@ fn row(call: Call, sample: &Sample) -> Result<Row, String> {
         [&mut || ready.make(), &mut || beside.make(), &mut || {
             other.make_other()
         }];
-    let has_other = matches!(call, Call::Judge | Call::Load | Call::Write);
+    let has_other = matches!(call, Call::Judge | Call::Load | Call::Poll(_) | Call::Write);
     let times = medians(&mut functions[..if has_other { 3 } else { 2 }]);
     ready.check()?;
     let lookups = match call {
         Call::Judge | Call::Load | Call::List => fast::judge(&sample.bytes).count,
-        Call::Screen | Call::Query(_) | Call::Write => 0,
+        Call::Screen | Call::Query(_) | Call::Poll(_) | Call::Write => 0,
     };
     for verdict in [beside.verdict, other.verdict].into_iter().flatten() {
         if verdict != Report::SUCCESS.counting(lookups) {
@@ -86,6 +88,7 @@ fn row(call: Call, sample: &Sample) -> Result<Row, String> {
         peer: times[1],
         other: match call {
             Call::Judge | Call::Load => Other::Method(times[2]),
+            Call::Poll(_) => Other::InPlace(times[2]),
             Call::Write => Other::Copy(times[2]),
             Call::Screen | Call::Query(_) | Call::List => Other::None,
         },

@@ -1,9 +1,10 @@
 //! Random calls on both sides.
 
+pub mod roadside;
 pub mod slices;
 
 use crate::generate::{
-    any_query, any_state, any_write, bytes::bytes_of, certificate, damaged, Size,
+    any_poll, any_query, any_state, any_write, bytes::bytes_of, certificate, damaged, Size,
 };
 use crate::numbers::Numbers;
 use crate::sides::{judge, list, listed, screen, Agreed, Difference, Sides};
@@ -18,6 +19,24 @@ pub struct Plan {
     pub seed: u64,
     pub loads: u64,
     pub queries: u64,
+    pub polls: u64,
+}
+
+impl Plan {
+    /// How many queries and polls have been made once this load is done.
+    fn due_after(&self, load: u64) -> Due {
+        let part = |of: u64| u128::from(of) * u128::from(load + 1) / u128::from(self.loads);
+        Due {
+            queries: part(self.queries) as u64,
+            polls: part(self.polls) as u64,
+        }
+    }
+}
+
+/// How many queries and polls are due in all.
+struct Due {
+    queries: u64,
+    polls: u64,
 }
 
 /// The first difference, with all that is needed to see it again.
@@ -39,9 +58,8 @@ pub fn differential(plan: &Plan) -> Result<Tally, Box<Found>> {
         tally: Tally::default(),
     };
     for load in 0..plan.loads {
-        let due = u128::from(plan.queries) * u128::from(load + 1) / u128::from(plan.loads);
         let mut numbers = Numbers::of(plan.seed, load);
-        if let Err(difference) = run.step(&mut numbers, due as u64) {
+        if let Err(difference) = run.step(&mut numbers, plan.due_after(load)) {
             return Err(run.found(load, *difference));
         }
     }
@@ -59,8 +77,8 @@ struct Run {
 }
 
 impl Run {
-    /// One load and the calls after it, until `queries` have been made in all.
-    fn step(&mut self, numbers: &mut Numbers, queries: u64) -> Agreed<()> {
+    /// One load and the calls after it.
+    fn step(&mut self, numbers: &mut Numbers, due: Due) -> Agreed<()> {
         self.draw(numbers);
         screen(&self.bytes)?;
         let report = self.sides.load(&self.bytes)?;
@@ -72,17 +90,15 @@ impl Run {
         if numbers.chance(10) {
             self.hand(numbers);
         }
-        while self.tally.queries.all() < queries {
-            let query = any_query(self.held.as_ref().unwrap_or(&self.base), numbers);
-            let report = self.sides.query(&query)?;
-            self.tally.queries.add(report.number);
-        }
+        self.look_up(numbers, due)?;
         self.write(numbers)?;
         if numbers.chance(30) {
             self.list(numbers)?;
         }
         if numbers.chance(5) {
             slices::compare(&self.bytes, &self.sides, numbers)?;
+            let held = self.held.as_ref().unwrap_or(&self.base);
+            roadside::compare(&self.bytes, held, &self.sides, numbers)?;
         }
         if numbers.chance(5) {
             self.sides.fresh()?;
@@ -109,6 +125,27 @@ impl Run {
         self.sides = Sides::of(any_state(&self.bytes, numbers));
         if let Ok(certificate) = read(&self.bytes) {
             self.held = Some(certificate);
+        }
+    }
+
+    /// Queries and polls in any order, until as many as are due have been made in all.
+    fn look_up(&mut self, numbers: &mut Numbers, due: Due) -> Agreed<()> {
+        let held = self.held.as_ref().unwrap_or(&self.base);
+        loop {
+            let queries = due.queries.saturating_sub(self.tally.queries.all());
+            let polls = due.polls.saturating_sub(self.tally.polls.all());
+            if queries + polls == 0 {
+                return Ok(());
+            }
+            if numbers.between(1, queries + polls) <= queries {
+                let report = self.sides.query(&any_query(held, numbers))?;
+                self.tally.queries.add(report.number);
+            } else {
+                let report = self
+                    .sides
+                    .poll(&any_poll(held, self.sides.own.mode, numbers))?;
+                self.tally.polls.add(report.number);
+            }
         }
     }
 

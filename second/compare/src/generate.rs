@@ -6,11 +6,13 @@ mod damage;
 mod grid;
 mod network;
 mod policy;
+mod polls;
 mod solve;
 
 pub use calls::{any_query, any_state, any_write, Query};
 pub use damage::damaged;
 pub use policy::find_policy;
+pub use polls::any_poll;
 
 use crate::numbers::Numbers;
 use second::Certificate;

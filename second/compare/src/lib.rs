@@ -8,6 +8,7 @@ pub mod library;
 pub mod numbers;
 pub mod peer;
 pub mod readings;
+pub mod roadside;
 pub mod samples;
 pub mod sides;
 pub mod tally;

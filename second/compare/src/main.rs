@@ -6,11 +6,11 @@ use compare::readings::{readings, Extent};
 use std::process::ExitCode;
 
 const USAGE: &str = "\
-usage: compare differential --seed S --loads N --queries M
+usage: compare differential --seed S --loads N --queries M --polls P
        compare reading --all|--part
        compare bench [--part]
        compare once CALL CERTIFICATE [N]
-           CALL: screen, judge, load, query-first, query-last, write, list
+           CALL: screen, judge, load, query-first, query-last, poll-first, poll-last, write, list
            CERTIFICATE: L, typical, largest, worst
 ";
 
@@ -40,7 +40,7 @@ fn usage() -> ExitCode {
     ExitCode::from(2)
 }
 
-/// `--seed S --loads N --queries M`, in any order.
+/// `--seed S --loads N --queries M --polls P`, in any order.
 fn plan(options: &[&str]) -> Option<Plan> {
     let number = |name: &str| {
         let at = options.iter().position(|&option| option == name)?;
@@ -50,8 +50,9 @@ fn plan(options: &[&str]) -> Option<Plan> {
         seed: number("--seed")?,
         loads: number("--loads")?,
         queries: number("--queries")?,
+        polls: number("--polls")?,
     };
-    (options.len() == 6 && plan.loads > 0).then_some(plan)
+    (options.len() == 8 && plan.loads > 0).then_some(plan)
 }
 
 fn run_differential(plan: &Plan) -> ExitCode {

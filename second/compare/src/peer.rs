@@ -6,7 +6,10 @@
 
 mod index;
 mod judging;
+mod poll;
 mod runs;
+
+pub use poll::poll;
 
 use crate::fast::listing::{put, put_refusal};
 use crate::fast::network::Network;

@@ -1,7 +1,13 @@
 //! The library and the second checker side by side: every call is made on both, and all that it leaves is compared.
+//! Calls that the roadside crate has too are made there as well, on a copy of the state.
+
+mod roadside;
+
+pub use roadside::agree_results;
 
 use crate::generate::Query;
 use crate::library::{self, LENGTH_SIZE, REPORT_SIZE, SHOWN_SIZE};
+use crate::roadside::{packed_answer, packed_report, queue_bytes, shown_answer, shown_report};
 use second::conditions::read_sound;
 use second::{listing, Report, State};
 
@@ -140,7 +146,7 @@ impl Sides {
         Sides { own, library }
     }
 
-    fn agree_states(&self, call: impl FnOnce() -> String) -> Agreed<()> {
+    pub fn agree_states(&self, call: impl FnOnce() -> String) -> Agreed<()> {
         let (stored, rest) = self.library.split_at(State::CAPACITY);
         let (length, mode) = rest.split_at(LENGTH_SIZE);
         let same = stored == self.own.stored
@@ -156,19 +162,25 @@ impl Sides {
     /// Both sides become fresh.
     pub fn fresh(&mut self) -> Agreed<()> {
         let call = || "fresh".to_string();
+        let before = self.library.clone();
         self.own = State::fresh();
         let result = library::fresh(&mut self.library);
         agree(call, &[0], result, &[result])?;
-        self.agree_states(call)
+        self.agree_states(call)?;
+        self.agree_roadside(call, shown_report, 0, before, crate::roadside::fresh)
     }
 
     pub fn load(&mut self, bytes: &[u8]) -> Agreed<Report> {
         let call = || "load".to_string();
+        let before = self.library.clone();
         let own = self.own.load(bytes);
         let mut report = [BEFORE; REPORT_SIZE];
         let number = library::load(&mut self.library, bytes, &mut report);
         agree(call, &report_numbers(own), number, &report)?;
         self.agree_states(call)?;
+        self.agree_roadside(call, shown_report, packed_report(own), before, |state| {
+            crate::roadside::load(state, bytes)
+        })?;
         Ok(own)
     }
 
@@ -178,6 +190,7 @@ impl Sides {
             let Query { scale, queues } = query;
             format!("query scale {scale} queues {queues:?} in mode {mode}")
         };
+        let before = self.library.clone();
         let answer = self.own.query(&query.queues, query.scale);
         let [number, a, b, count] = report_numbers(answer.report);
         let own = [
@@ -192,6 +205,9 @@ impl Sides {
         let result = library::query(&mut self.library, &query.queues, query.scale, &mut shown);
         agree(call, &own, result, &shown)?;
         self.agree_states(call)?;
+        self.agree_roadside(call, shown_answer, packed_answer(answer), before, |state| {
+            crate::roadside::query(state, &queue_bytes(&query.queues), query.scale)
+        })?;
         Ok(answer.report)
     }
 

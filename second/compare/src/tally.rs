@@ -4,11 +4,14 @@ use std::fmt;
 
 /// Counts of one kind of call by result number.
 #[derive(Clone, Debug, Default)]
-pub struct Numbered([u64; 20]);
+pub struct Numbered([u64; NUMBERS]);
+
+/// Result numbers: 0 to 21.
+const NUMBERS: usize = 22;
 
 impl Numbered {
     pub fn add(&mut self, number: u32) {
-        self.0[number as usize % 20] += 1;
+        self.0[number as usize % NUMBERS] += 1;
     }
 
     pub fn of(&self, number: usize) -> u64 {
@@ -37,6 +40,7 @@ impl fmt::Display for Numbered {
 pub struct Tally {
     pub loads: Numbered,
     pub queries: Numbered,
+    pub polls: Numbered,
     pub writes: Numbered,
     pub listings: Numbered,
 }
@@ -49,13 +53,15 @@ impl fmt::Display for Tally {
             writeln!(out, "  refused {number}: {}", self.loads.of(number))?;
         }
         writeln!(out, "queries: {}", self.queries)?;
+        writeln!(out, "polls: {}", self.polls)?;
         writeln!(out, "writes: {}", self.writes)?;
         writeln!(out, "listings: {}", self.listings)?;
         write!(
             out,
-            "{} loads, {} queries, {} writes, {} listings",
+            "{} loads, {} queries, {} polls, {} writes, {} listings",
             self.loads.all(),
             self.queries.all(),
+            self.polls.all(),
             self.writes.all(),
             self.listings.all()
         )

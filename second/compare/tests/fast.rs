@@ -1,7 +1,8 @@
 //! The plain checkers, `fast` and `peer`, give what the second checker gives.
 
-use compare::generate::{bytes::bytes_of, certificate, damaged, Size};
+use compare::generate::{any_poll, any_state, bytes::bytes_of, certificate, damaged, Size};
 use compare::numbers::Numbers;
+use compare::sides::state_bytes;
 use compare::{fast, peer, samples};
 use second::conditions::read_sound;
 use second::text::encode;
@@ -137,4 +138,29 @@ fn on_the_greatest_rank() {
     let equal = text.replace("signal 1", "signal 0");
     let refused = Report::at(15, 1).and(1).counting(3);
     assert_eq!(agrees(&encode(&equal).unwrap()), refused);
+}
+
+/// Polls by the peer, on states made by hand around certificates, damaged ones too.
+#[test]
+fn on_polls() {
+    let mut seen = [0; 22];
+    for part in 0..400 {
+        let mut numbers = Numbers::of(8, part);
+        let drawn = certificate(&mut numbers, Size::Small);
+        for bytes in [bytes_of(&drawn), damaged(&drawn, &mut numbers)] {
+            let mut own = any_state(&bytes, &mut numbers);
+            let mut state = state_bytes(&own);
+            for _ in 0..8 {
+                let poll = any_poll(&drawn, own.mode, &mut numbers);
+                let answer = peer::poll(&mut state, &poll);
+                assert_eq!(answer, own.poll(&poll), "{poll:?}");
+                assert_eq!(state, state_bytes(&own));
+                seen[answer.report.number as usize] += 1;
+            }
+        }
+    }
+    assert!(
+        [0, 16, 18, 19, 20, 21].iter().all(|&at| seen[at] > 100),
+        "{seen:?}"
+    );
 }

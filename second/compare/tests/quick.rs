@@ -1,10 +1,11 @@
 //! A fixed part of every comparison.
 
-use compare::differential::{differential, shown, slices, Plan};
+use compare::differential::{differential, roadside, shown, slices, Plan};
 use compare::numbers::Numbers;
 use compare::readings::{readings, Extent};
 use compare::samples;
 use compare::sides::Sides;
+use second::conditions::read_sound;
 use second::State;
 
 #[test]
@@ -13,10 +14,12 @@ fn library_and_second_checker_agree() {
         seed: 1,
         loads: 1_500,
         queries: 6_000,
+        polls: 6_000,
     };
     let tally = differential(&plan).unwrap_or_else(|found| panic!("{}", shown(plan.seed, &found)));
     assert_eq!(tally.loads.all(), plan.loads);
     assert_eq!(tally.queries.all(), plan.queries);
+    assert_eq!(tally.polls.all(), plan.polls);
     assert!(tally.loads.of(0) * 10 > tally.loads.all() * 4, "{tally}");
     for number in 1..=15 {
         assert!(tally.loads.of(number) > 0, "no {number}\n{tally}");
@@ -24,6 +27,10 @@ fn library_and_second_checker_agree() {
     for number in [0, 16, 18, 19] {
         assert!(tally.queries.of(number) > 100, "few {number}\n{tally}");
     }
+    for number in [0, 16, 18, 19, 20, 21] {
+        assert!(tally.polls.of(number) > 100, "few {number}\n{tally}");
+    }
+    assert!(tally.polls.of(0) * 2 > tally.polls.all(), "{tally}");
     for number in [0, 17, 18] {
         assert!(tally.writes.of(number) > 10, "few {number}\n{tally}");
     }
@@ -40,12 +47,14 @@ fn readings_agree() {
 #[test]
 fn slices_of_other_lengths() {
     let listed = samples::listed();
+    let certificate = read_sound(&listed).expect("L");
     let mut sides = Sides::of(State::by_hand(&[255; State::CAPACITY], 3, 200));
     let mut numbers = Numbers::of(7, 0);
     let mut compare = |bytes: &[u8], sides: &Sides| {
         for _ in 0..20 {
-            let compared = slices::compare(bytes, sides, &mut numbers);
-            compared.unwrap_or_else(|difference| panic!("{difference:?}"));
+            slices::compare(bytes, sides, &mut numbers)
+                .and_then(|()| roadside::compare(bytes, &certificate, sides, &mut numbers))
+                .unwrap_or_else(|difference| panic!("{difference:?}"));
         }
     };
     compare(&listed, &sides);

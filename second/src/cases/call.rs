@@ -21,6 +21,9 @@ pub enum Call {
         scale: u32,
         queues: Vec<u32>,
     },
+    Poll {
+        bytes: Vec<u8>,
+    },
     Write {
         buffer: usize,
         start: usize,
@@ -33,13 +36,14 @@ pub enum Call {
 impl Call {
     /// Reads the line of a call.
     pub fn read(words: &mut Words) -> Result<Call, String> {
-        let calls = "`fresh`, `state`, `load`, `query`, `write` or `list`";
+        let calls = "`fresh`, `state`, `load`, `query`, `poll`, `write` or `list`";
         let before = words.clone();
         let call = match words.take(calls)? {
             "fresh" => Call::Fresh,
             "state" => state(words)?,
             "load" => Call::Load { name: name(words)? },
             "query" => query(words)?,
+            "poll" => poll(words)?,
             "write" => write(words)?,
             "list" => Call::List { name: name(words)? },
             _ => return before.wrong(calls),
@@ -54,6 +58,7 @@ impl Call {
             Call::Fresh | Call::State { .. } => None,
             Call::Load { .. } => Some("load"),
             Call::Query { .. } => Some("query"),
+            Call::Poll { .. } => Some("poll"),
             Call::Write { .. } => Some("write"),
             Call::List { .. } => Some("list"),
         }
@@ -97,6 +102,37 @@ fn query(words: &mut Words) -> Result<Call, String> {
         queues.push(words.number("a queue", most)? as u32);
     }
     Ok(Call::Query { scale, queues })
+}
+
+/// Detectors one after the other, or the bytes of the poll as they stand.
+fn poll(words: &mut Words) -> Result<Call, String> {
+    let mut bytes = Vec::new();
+    if words.takes("bytes") {
+        if words.peek().is_none() {
+            return words.wrong("`none` or a byte of two hexadecimal digits");
+        }
+        if !words.takes("none") {
+            bytes = words.bytes()?;
+        }
+        return Ok(Call::Poll { bytes });
+    }
+    let reading = "`fault` or a reading of 16 hexadecimal digits";
+    put_detector(&mut bytes, words, &format!("`bytes`, {reading}"))?;
+    while words.peek().is_some() {
+        put_detector(&mut bytes, words, reading)?;
+    }
+    Ok(Call::Poll { bytes })
+}
+
+/// The nine bytes of a detector: a reading by its bits, or `fault HH`.
+fn put_detector(bytes: &mut Vec<u8>, words: &mut Words, expected: &str) -> Result<(), String> {
+    if words.takes("fault") {
+        bytes.extend([1, words.byte()?, 0, 0, 0, 0, 0, 0, 0]);
+    } else {
+        bytes.push(0);
+        bytes.extend(words.bits(expected)?.to_be_bytes());
+    }
+    Ok(())
 }
 
 fn write(words: &mut Words) -> Result<Call, String> {

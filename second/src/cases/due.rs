@@ -13,12 +13,8 @@ pub enum Due {
         mode: u8,
         length: usize,
     },
-    Query {
-        report: Report,
-        signal: u8,
-        green: u8,
-        mode: u8,
-    },
+    Query(Shown),
+    Poll(Shown),
     Write {
         report: Report,
         /// The certificate that the buffer holds and where it starts; none if the buffer is kept.
@@ -27,6 +23,15 @@ pub enum Due {
     List {
         text: String,
     },
+}
+
+/// What a query or a poll answers, and the next state's mode.
+#[derive(Clone, Debug, PartialEq, Eq)]
+pub struct Shown {
+    pub report: Report,
+    pub signal: u8,
+    pub green: u8,
+    pub mode: u8,
 }
 
 /// A case and its due results.
@@ -94,14 +99,16 @@ fn read_result(words: &mut Words) -> Result<Due, String> {
     let due = if words.takes("load") {
         read_load(words)?
     } else if words.takes("query") {
-        read_query(words)?
+        Due::Query(read_shown(words)?)
+    } else if words.takes("poll") {
+        Due::Poll(read_shown(words)?)
     } else if words.takes("write") {
         read_write(words)?
     } else if words.takes("list") {
         let text = String::new();
         Due::List { text }
     } else {
-        return words.wrong("`case`, `load`, `query`, `write` or `list`");
+        return words.wrong("`case`, `load`, `query`, `poll`, `write` or `list`");
     };
     words.must_end()?;
     Ok(due)
@@ -118,13 +125,13 @@ fn read_load(words: &mut Words) -> Result<Due, String> {
     })
 }
 
-fn read_query(words: &mut Words) -> Result<Due, String> {
+fn read_shown(words: &mut Words) -> Result<Shown, String> {
     let report = read_report(words)?;
     let signal = read_byte(words, "signal")?;
     words.must_take("green")?;
     let green = words.byte()?;
     let mode = read_byte(words, "mode")?;
-    Ok(Due::Query {
+    Ok(Shown {
         report,
         signal,
         green,
@@ -146,7 +153,7 @@ fn read_write(words: &mut Words) -> Result<Due, String> {
 
 fn read_report(words: &mut Words) -> Result<Report, String> {
     Ok(Report {
-        number: words.number("the result's number", 19)? as u32,
+        number: words.number("the result's number", 21)? as u32,
         a: words.number("place A", u64::MAX)?,
         b: words.number("place B", u64::MAX)?,
         count: words.number("the count", u64::MAX)?,
@@ -170,7 +177,8 @@ impl Due {
     pub fn word(&self) -> &'static str {
         match self {
             Due::Load { .. } => "load",
-            Due::Query { .. } => "query",
+            Due::Query(_) => "query",
+            Due::Poll(_) => "poll",
             Due::Write { .. } => "write",
             Due::List { .. } => "list",
         }
@@ -185,14 +193,14 @@ impl fmt::Display for Due {
                 mode,
                 length,
             } => write!(out, "load {report} mode {mode} length {length}"),
-            Due::Query {
-                report,
-                signal,
-                green,
-                mode,
-            } => write!(
+            Due::Query(shown) | Due::Poll(shown) => write!(
                 out,
-                "query {report} signal {signal} green {green:02X} mode {mode}"
+                "{} {} signal {} green {:02X} mode {}",
+                self.word(),
+                shown.report,
+                shown.signal,
+                shown.green,
+                shown.mode
             ),
             Due::Write { report, holds } => match holds {
                 Some((name, start)) => write!(out, "write {report} holds {name} from {start}"),

@@ -3,6 +3,7 @@
 //! - for each case `case N`, counted from 0
 //! - load: `load NUMBER A B COUNT mode M length N`
 //! - query: `query NUMBER A B COUNT signal S green G mode M`
+//! - poll: `poll NUMBER A B COUNT signal S green G mode M`
 //! - write: `write NUMBER A B COUNT sum H`, H the hash of the whole buffer after the call
 //! - listing: `list NUMBER A B COUNT`, then the text
 //!
@@ -13,7 +14,7 @@ use super::due::Due;
 use super::folder::{read_folder, Paired};
 use super::run::due_buffer;
 use super::stored::Certificates;
-use super::stream::fitting;
+use super::stream::{fitting, fitting_poll};
 use crate::report::Report;
 use std::path::Path;
 
@@ -37,15 +38,20 @@ fn printed(paired: &Paired, certificates: &Certificates) -> Result<String, Strin
     if let Some(name) = call.certificate() {
         fitting(certificates, name)?;
     }
+    if let Call::Poll { bytes } = call {
+        fitting_poll(bytes)?;
+    }
     Ok(match &paired.due {
         None => String::new(),
         Some(due @ Due::Load { .. }) => format!("{due}\n"),
-        Some(Due::Query {
-            report,
-            signal,
-            green,
-            mode,
-        }) => format!("query {report} signal {signal} green {green} mode {mode}\n"),
+        Some(due @ (Due::Query(shown) | Due::Poll(shown))) => format!(
+            "{} {} signal {} green {} mode {}\n",
+            due.word(),
+            shown.report,
+            shown.signal,
+            shown.green,
+            shown.mode
+        ),
         Some(Due::Write { report, holds }) => {
             let buffer = due_buffer(holds, lent_size(call), certificates)
                 .ok_or("expected a buffer with room for the due certificate")?;

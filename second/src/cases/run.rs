@@ -1,12 +1,12 @@
 //! Running stored cases against this checker.
 
 use super::call::Call;
-use super::due::Due;
+use super::due::{Due, Shown};
 use super::folder::{read_folder, Paired, Ready};
 use super::stored::Certificates;
 use crate::listing::listing;
 use crate::report::Report;
-use crate::state::State;
+use crate::state::{Answer, State};
 use std::path::Path;
 
 /// What came of a folder of cases.
@@ -94,7 +94,14 @@ fn make(state: &mut State, call: &Call, certificates: &Certificates) -> Option<G
                 length,
             }))
         }
-        Call::Query { scale, queues } => Some(Got::Told(query(state, queues, *scale))),
+        Call::Query { scale, queues } => {
+            let answer = state.query(queues, *scale);
+            Some(Got::Told(Due::Query(shown_by(answer, state))))
+        }
+        Call::Poll { bytes } => {
+            let answer = state.poll(bytes);
+            Some(Got::Told(Due::Poll(shown_by(answer, state))))
+        }
         Call::Write { buffer, start } => {
             let mut buffer = lent_buffer(*buffer);
             let report = state.write(&mut buffer, *start);
@@ -107,9 +114,9 @@ fn make(state: &mut State, call: &Call, certificates: &Certificates) -> Option<G
     }
 }
 
-fn query(state: &mut State, queues: &[u32], scale: u32) -> Due {
-    let answer = state.query(queues, scale);
-    Due::Query {
+/// An answer, and the mode that the state is left in.
+fn shown_by(answer: Answer, state: &State) -> Shown {
+    Shown {
         report: answer.report,
         signal: answer.signal,
         green: answer.green,

@@ -6,6 +6,7 @@
 //! - `S` n:u32 bytes[n] length:u64 mode:u8: a state made by hand, zeros behind the bytes
 //! - `L` n:u32 bytes[n]: load
 //! - `Q` scale:u32 count:u16 queue:u32 × count: query
+//! - `P` n:u32 bytes[n]: poll
 //! - `W` size:u32 start:u64: write into a buffer of `size` bytes
 //! - `T` n:u32 bytes[n]: listing
 //!
@@ -19,6 +20,8 @@ use std::path::Path;
 
 /// A certificate in a stream has at most this many bytes.
 pub const MOST_BYTES: usize = 40_960;
+/// A poll in a stream has at most this many bytes.
+pub const MOST_POLL: usize = 1_024;
 
 /// All cases of a folder.
 pub fn stream(folder: &Path) -> Result<Vec<u8>, String> {
@@ -47,6 +50,17 @@ pub(super) fn fitting<'a>(certificates: &'a Certificates, name: &str) -> Result<
     Ok(bytes)
 }
 
+/// The bytes of a poll, unless there are too many.
+pub(super) fn fitting_poll(bytes: &[u8]) -> Result<&[u8], String> {
+    if bytes.len() > MOST_POLL {
+        let found = bytes.len();
+        return Err(format!(
+            "expected at most {MOST_POLL} bytes, found {found} in a poll"
+        ));
+    }
+    Ok(bytes)
+}
+
 fn put_call(out: &mut Vec<u8>, call: &Call, certificates: &Certificates) -> Result<(), String> {
     match call {
         Call::Fresh => out.push(b'F'),
@@ -59,6 +73,7 @@ fn put_call(out: &mut Vec<u8>, call: &Call, certificates: &Certificates) -> Resu
         }
         Call::Load { name } => put_bytes(out, b'L', fitting(certificates, name)?),
         Call::Query { scale, queues } => put_query(out, *scale, queues)?,
+        Call::Poll { bytes } => put_bytes(out, b'P', fitting_poll(bytes)?),
         Call::Write { buffer, start } => {
             out.push(b'W');
             out.extend((*buffer as u32).to_be_bytes());

@@ -94,7 +94,14 @@ impl<'a> Words<'a> {
 
     /// Takes a byte of two hexadecimal digits.
     pub fn byte(&mut self) -> Result<u8, String> {
-        self.parse("a byte of two hexadecimal digits", hexadecimal)
+        self.parse("a byte of two hexadecimal digits", |word| {
+            Some(hexadecimal(word, 2)? as u8)
+        })
+    }
+
+    /// Takes 64 bits of 16 hexadecimal digits.
+    pub fn bits(&mut self, expected: &str) -> Result<u64, String> {
+        self.parse(expected, |word| hexadecimal(word, 16))
     }
 
     /// Takes the bytes that are left, at least one.
@@ -123,10 +130,10 @@ pub fn decimal(word: &str, most: u64) -> Option<u64> {
     word.parse().ok().filter(|&number| number <= most)
 }
 
-/// Two hexadecimal digits.
-fn hexadecimal(word: &str) -> Option<u8> {
-    if word.len() != 2 || !word.bytes().all(|digit| digit.is_ascii_hexdigit()) {
+/// So many hexadecimal digits, at most 16.
+fn hexadecimal(word: &str, digits: usize) -> Option<u64> {
+    if word.len() != digits || !word.bytes().all(|digit| digit.is_ascii_hexdigit()) {
         return None;
     }
-    u8::from_str_radix(word, 16).ok()
+    u64::from_str_radix(word, 16).ok()
 }

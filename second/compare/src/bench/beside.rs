@@ -11,6 +11,7 @@ use std::hint::black_box;
 pub struct Beside<'a> {
     call: Call,
     sample: &'a Sample,
+    poll: Vec<u8>,
     state: Vec<u8>,
     back: Vec<u8>,
     buffer: Vec<u8>,
@@ -20,10 +21,15 @@ pub struct Beside<'a> {
 
 impl<'a> Beside<'a> {
     pub fn of(call: Call, sample: &'a Sample) -> Beside<'a> {
+        let poll = match call {
+            Call::Poll(asked) => sample.poll(asked),
+            _ => Vec::new(),
+        };
         Beside {
             call,
             sample,
-            state: vec![0; STATE_SIZE],
+            poll,
+            state: sample.state.clone(),
             back: vec![0; STATE_SIZE],
             buffer: vec![0; LISTING],
             verdict: None,
@@ -46,6 +52,11 @@ impl<'a> Beside<'a> {
                 self.copy_state();
                 black_box(&mut self.back).copy_from_slice(black_box(&self.state));
             }
+            Call::Poll(_) => {
+                self.copy_state();
+                self.poll();
+                black_box(&mut self.back).copy_from_slice(black_box(&self.state));
+            }
             Call::Write => {
                 self.screen();
                 self.copy_state();
@@ -57,7 +68,8 @@ impl<'a> Beside<'a> {
         }
     }
 
-    /// Verdicts by the checker of another method; a write as a bare copy. Nothing for other calls.
+    /// Verdicts by the checker of another method; a poll where the state stands; a write as a bare copy. Nothing for other
+    /// calls.
     #[inline]
     pub fn make_other(&mut self) {
         let bytes = black_box(&self.sample.bytes[..]);
@@ -67,9 +79,15 @@ impl<'a> Beside<'a> {
                 self.verdict = Some(fast::judge(bytes));
                 self.copy_state();
             }
+            Call::Poll(_) => self.poll(),
             Call::Write => self.copy_certificate(),
             Call::Screen | Call::Query(_) | Call::List => (),
         }
+    }
+
+    fn poll(&mut self) {
+        let answer = peer::poll(black_box(&mut self.state), black_box(&self.poll));
+        self.verdict = Some(black_box(answer).report);
     }
 
     /// One pass of the tests before 12.

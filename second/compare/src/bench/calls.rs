@@ -3,7 +3,7 @@
 use super::sample::{Asked, Sample, SCALE};
 use crate::library::{self, REPORT_SIZE, SHOWN_SIZE, STATE_SIZE};
 use crate::sides::report_numbers;
-use crate::{fast, peer};
+use crate::{fast, peer, roadside};
 use second::Report;
 use std::hint::black_box;
 
@@ -18,22 +18,25 @@ pub enum Call {
     Judge,
     Load,
     Query(Asked),
+    Poll(Asked),
     Write,
     List,
 }
 
 impl Call {
-    const ALL: [Call; 7] = [
+    const ALL: [Call; 9] = [
         Call::Screen,
         Call::Judge,
         Call::Load,
         Call::Query(Asked::First),
         Call::Query(Asked::Last),
+        Call::Poll(Asked::First),
+        Call::Poll(Asked::Last),
         Call::Write,
         Call::List,
     ];
 
-    /// The call's name, and which cell a query asks for.
+    /// The call's name, and which cell a query or a poll asks for.
     pub fn names(self) -> (&'static str, &'static str) {
         match self {
             Call::Screen => ("screen", ""),
@@ -41,12 +44,14 @@ impl Call {
             Call::Load => ("load", ""),
             Call::Query(Asked::First) => ("query", "first"),
             Call::Query(Asked::Last) => ("query", "last"),
+            Call::Poll(Asked::First) => ("poll", "first"),
+            Call::Poll(Asked::Last) => ("poll", "last"),
             Call::Write => ("write", ""),
             Call::List => ("list", ""),
         }
     }
 
-    /// The call by its name; `query-first` and `query-last` for the two queries.
+    /// The call by its name; `query-first` and `query-last` for the two queries, and so for polls.
     pub fn named(name: &str) -> Result<Call, String> {
         let is_named = |call: &Call| match call.names() {
             (call, "") => call == name,
@@ -69,6 +74,7 @@ pub struct Ready<'a> {
     call: Call,
     sample: &'a Sample,
     queues: Vec<u32>,
+    poll: Vec<u8>,
     state: Vec<u8>,
     buffer: Vec<u8>,
     shown: [u32; SHOWN_SIZE],
@@ -76,19 +82,22 @@ pub struct Ready<'a> {
 
 impl<'a> Ready<'a> {
     pub fn of(call: Call, sample: &'a Sample) -> Ready<'a> {
-        let (state, queues) = match call {
-            Call::Load => (fresh_state(), Vec::new()),
-            Call::Query(asked) => (sample.state.clone(), sample.queues(asked)),
-            _ => (sample.state.clone(), Vec::new()),
-        };
-        Ready {
+        let mut ready = Ready {
             call,
             sample,
-            queues,
-            state,
+            queues: Vec::new(),
+            poll: Vec::new(),
+            state: sample.state.clone(),
             buffer: vec![0; LISTING],
             shown: [0; SHOWN_SIZE],
+        };
+        match call {
+            Call::Load => ready.state = fresh_state(),
+            Call::Query(asked) => ready.queues = sample.queues(asked),
+            Call::Poll(asked) => ready.poll = sample.poll(asked),
+            _ => (),
         }
+        ready
     }
 
     /// Makes the call once.
@@ -103,6 +112,10 @@ impl<'a> Ready<'a> {
             Call::Judge => library::judge(bytes, report),
             Call::Load => library::load(state, bytes, report),
             Call::Query(_) => library::query(state, &self.queues, SCALE, &mut self.shown),
+            Call::Poll(_) => {
+                self.shown = roadside::unpacked(roadside::poll(state, black_box(&self.poll)));
+                self.shown[0]
+            }
             Call::Write => library::write(state, buffer, START, report),
             Call::List => library::list(bytes, buffer, report),
         });
@@ -111,7 +124,7 @@ impl<'a> Ready<'a> {
     /// The numbers that the call has put down.
     pub fn shown(&self) -> &[u32] {
         match self.call {
-            Call::Query(_) => &self.shown,
+            Call::Query(_) | Call::Poll(_) => &self.shown,
             _ => &self.shown[..REPORT_SIZE],
         }
     }
@@ -125,7 +138,7 @@ impl<'a> Ready<'a> {
         let report = match self.call {
             Call::Screen => fast::screen(bytes),
             Call::Judge | Call::Load => fast::judge(bytes),
-            Call::Query(_) => due.answer(),
+            Call::Query(_) | Call::Poll(_) => due.answer(),
             Call::Write => {
                 due.buffer[START..][..bytes.len()].copy_from_slice(bytes);
                 Report::at(0, bytes.len())
@@ -141,7 +154,11 @@ impl<'a> Ready<'a> {
 
     /// Puts down the second checker's signal and green byte.
     fn answer(&mut self) -> Report {
-        let answer = self.sample.second_state().query(&self.queues, SCALE);
+        let mut state = self.sample.second_state();
+        let answer = match self.call {
+            Call::Poll(_) => state.poll(&self.poll),
+            _ => state.query(&self.queues, SCALE),
+        };
         self.shown[REPORT_SIZE] = answer.signal.into();
         self.shown[REPORT_SIZE + 1] = answer.green.into();
         answer.report

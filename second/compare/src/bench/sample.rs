@@ -14,7 +14,7 @@ pub struct Sample {
     certificate: Certificate,
 }
 
-/// Which of the listed cells a query asks for.
+/// Which of the listed cells a query or a poll asks for.
 #[derive(Clone, Copy, Debug, PartialEq, Eq)]
 pub enum Asked {
     First,
@@ -74,5 +74,18 @@ impl Sample {
         }
         queues.reverse();
         queues
+    }
+
+    /// The same queues as a poll: one detector of a link gives its queue, the other half of it.
+    pub fn poll(&self, asked: Asked) -> Vec<u8> {
+        let mut poll = Vec::new();
+        for queue in self.queues(asked) {
+            let queue = f64::from(queue) / f64::from(SCALE);
+            for reading in [queue, queue / 2.0] {
+                poll.push(0);
+                poll.extend(reading.to_be_bytes());
+            }
+        }
+        poll
     }
 }

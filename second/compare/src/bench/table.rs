@@ -8,6 +8,8 @@ pub enum Other {
     None,
     /// The same by a checker of another method.
     Method(f64),
+    /// The same without copies of the state.
+    InPlace(f64),
     /// A bare copy of the certificate.
     Copy(f64),
 }
@@ -26,7 +28,8 @@ impl Row {
     pub const TITLE: &'static str = "\
 Peer: a plain Rust checker of the library's method. Beside a screen stands one Rust pass of the tests before
 12; beside a load a verdict and a copy of the state; beside a query one such pass and two copies of the state;
-beside a write one such pass, a copy of the state and one of the certificate. Ratios: library over the other.
+beside a poll the same and the lookup of what its detectors give; beside a write one such pass, a copy of the
+state and one of the certificate. Ratios: library over the other.
 
                                processor time, ns              ns per lookup     another method: blocks
                                                                                  of cells at once (fast)
@@ -56,6 +59,7 @@ impl fmt::Display for Row {
         match self.other {
             Other::None => Ok(()),
             Other::Method(other) => write!(out, " {other:>11.0} {:>7.2}", ratio(other)),
+            Other::InPlace(other) => write!(out, "   (without copies of the state: {other:.0} ns)"),
             Other::Copy(copy) => write!(out, "   (a bare copy of the certificate: {copy:.0} ns)"),
         }
     }

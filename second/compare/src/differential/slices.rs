@@ -76,14 +76,14 @@ pub fn compare(bytes: &[u8], sides: &Sides, numbers: &mut Numbers) -> Agreed<()>
 }
 
 /// Lengths that are no state's: one byte less, one more, and any.
-fn other_sizes(numbers: &mut Numbers) -> [usize; 4] {
+pub(super) fn other_sizes(numbers: &mut Numbers) -> [usize; 4] {
     let less = numbers.below(STATE_SIZE);
     let more = STATE_SIZE + numbers.between(1, 5_000) as usize;
     [STATE_SIZE - 1, STATE_SIZE + 1, less, more]
 }
 
 /// As many bytes of a state, and others behind them where it has fewer.
-fn resized(state: &[u8], size: usize) -> Vec<u8> {
+pub(super) fn resized(state: &[u8], size: usize) -> Vec<u8> {
     let mut state = state.to_vec();
     state.extend(lent_buffer(size.saturating_sub(state.len())));
     state.truncate(size);

@@ -1,0 +1,2 @@
+-- The links of a poll, tested one after another.
+pub mod Levelling

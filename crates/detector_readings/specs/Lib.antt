@@ -1,0 +1,2 @@
+-- What the code that reads polls goes by.
+pub mod PolledLinks

@@ -1,0 +1,3 @@
+-- The laws of polls of a state.
+pub mod Answers
+pub mod Following

@@ -1,0 +1,23 @@
+-- `roadside::roadside_fresh` meets its contract: the number, and the bytes afterwards. Assumes nothing.
+use mathlib.Core.Path.{ap}
+use borrow.Author.Needs.{needs}
+use Rattle.certificate.specs.declared.Report.{Report}
+use Rattle.roadside.proofs.roadside_fresh.Statement.{statement}
+use Rattle.roadside.proofs.roadside_fresh.Tie as tie
+
+fresh-requires : tie.Need-fresh-requires
+fresh-requires c κs = search needs
+
+cast-result : tie.Need-cast-result
+cast-result c = search needs
+
+same-length : tie.Need-same-length
+same-length c = search needs
+
+returns : tie.Need-returns
+returns c =
+    let fresh = c .before .before .before .fresh .ensures in
+    (ap (λ (r : Report). r .number) (fresh .report), fresh .bytes)
+
+pub roadside-fresh-spec : {M : Type 1} → statement M
+roadside-fresh-spec = tie.close (tie.spec fresh-requires cast-result same-length returns)

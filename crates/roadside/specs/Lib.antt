@@ -1,0 +1,5 @@
+-- What the street cabinet's calls find and answer.
+pub mod FoundPolls
+pub mod Words
+pub mod Calls
+pub mod Laws

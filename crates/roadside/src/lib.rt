@@ -1,0 +1,44 @@
+// The roadside unit: the calls of a street cabinet's C program, on numbers and byte slices. Each is thin: it lends what it is lent to a proved call
+// and answers one number of 64 bits, so that a refusal changes no lent byte.
+ghost use Rattle.roadside.specs.Calls.{FreshCall, LoadCall, QueryCall, PollCall};
+
+mod packing;
+pub mod polling;
+
+use packed_state::held;
+
+// The fresh state's bytes into a slice of their length; any other length gets 18, and no byte changes.
+#[no_mangle]
+pub extern "C" fn roadside_fresh(state: &mut [u8]) -> u64
+    ensures { λ r. ⌜ FreshCall (now (state .entry)) (now (state .exit)) r ⌝ }
+{
+    let report = held::fresh(state);
+    report.number as u64
+}
+
+// Loads any bytes into the state that the first slice holds; every run of an accepted certificate keeps the run claim.
+#[no_mangle]
+pub extern "C" fn roadside_load(state: &mut [u8], paper: &[u8]) -> u64
+    ensures { λ r. ⌜ LoadCall (now (paper .entry)) (now (state .entry)) (now (state .exit)) r ⌝ }
+{
+    packing::report_word(held::load(state, paper))
+}
+
+// What the state that is held shows for queues over a scale, and the next state. Queues are four bytes each.
+#[no_mangle]
+pub extern "C" fn roadside_query(state: &mut [u8], queues: &[u8], scale: u32) -> u64
+    ensures { λ r. ⌜ QueryCall (now (queues .entry)) scale (now (state .entry)) (now (state .exit)) r ⌝ }
+{
+    let read = packing::read_queues(queues);
+    let of = read.of;
+    let count = read.count;
+    packing::display_word(held::query(state, &of[0..count], scale))
+}
+
+// What the state that is held shows for a poll, and the next state.
+#[no_mangle]
+pub extern "C" fn roadside_poll(state: &mut [u8], poll: &[u8]) -> u64
+    ensures { λ r. ⌜ PollCall (now (poll .entry)) (now (state .entry)) (now (state .exit)) r ⌝ }
+{
+    packing::display_word(polling::poll_held(state, poll))
+}
