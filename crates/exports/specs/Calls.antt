@@ -7,7 +7,7 @@ use Rattle.controller.specs.State.{freshState, holding}
 use Rattle.controller.specs.Write.{writeReport, writeBuffer}
 use Rattle.listing_text.specs.Listing.{listReport, listBuffer}
 use Rattle.packed_state.specs.State.{heldIn, bytesAfter}
-use Rattle.packed_state.specs.Held.{freshReport, loadReport, shownFor}
+use Rattle.held_state.specs.Held.{freshReport, loadReport, shownFor}
 use Rattle.exports.specs.Exported.{reportNumbers, shownNumbers, Called}
 
 -- a listing: the buffer

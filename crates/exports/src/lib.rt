@@ -9,7 +9,6 @@ ghost use Rattle.judging.specs.Verdict.{verdictOf};
 ghost use Rattle.exports.specs.Exported.{reportNumbers, Answers};
 ghost use Rattle.exports.specs.Calls.{ListCall, FreshCall, LoadCall, QueryCall, WriteCall};
 use certificate::Report;
-use packed_state::held;
 
 // The four numbers of a report go to the front of `out`; the result is the report's number.
 fn put_report(report: Report, out: &mut [u32]) -> u32
@@ -76,7 +75,7 @@ pub extern "C" fn dergvost_list(s: &[u8], buffer: &mut [u8], out: &mut [u32]) ->
 pub extern "C" fn dergvost_fresh(state: &mut [u8]) -> u32
     ensures { λ r. ⌜ FreshCall (now (state .entry)) (now (state .exit)) r ⌝ }
 {
-    let report = held::fresh(state);
+    let report = held_state::fresh(state);
     report.number as u32
 }
 
@@ -88,7 +87,7 @@ pub extern "C" fn dergvost_load(state: &mut [u8], s: &[u8], out: &mut [u32]) -> 
     if out.len() < 4 {
         return 255;
     }
-    let judged = held::load(state, s);
+    let judged = held_state::load(state, s);
     put_report(judged, out)
 }
 
@@ -105,7 +104,7 @@ pub extern "C" fn dergvost_query(
     if out.len() < 6 {
         return 255;
     }
-    let shown = held::query(state, queues, scale);
+    let shown = held_state::query(state, queues, scale);
     put_shown(shown.report, shown.signal, shown.green, out)
 }
 

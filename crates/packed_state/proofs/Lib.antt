@@ -1,5 +1,4 @@
--- Eight bytes of a length, the copies, the state unpacked again, and slices of other lengths.
+-- Eight bytes of a length, the copies, and the state unpacked again.
 pub mod Octets
 pub mod Packing
 pub mod Passing
-pub mod Lengths

@@ -1,4 +1,3 @@
--- The state as bytes, and the calls on a state that is lent as bytes.
+-- The state as bytes.
 pub mod State
-pub mod Held
 pub mod Laws

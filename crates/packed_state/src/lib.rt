@@ -8,8 +8,6 @@ ghost use Rattle.octets.specs.Bounds.{entryBound};
 use controller::Controller;
 use octets::filling;
 
-pub mod held;
-
 // The bytes of the length.
 const LENGTH_SIZE: usize = 8;
 

@@ -30,12 +30,13 @@ use Rattle.controller.specs.Query.{showing, refused, queryOf}
 use Rattle.controller.specs.Laws.{HoldsCertificate}
 use Rattle.controller.proofs.Lookups.{by-way}
 use Rattle.packed_state.specs.State.{hasStateSize, heldIn}
-use Rattle.packed_state.specs.Held.{loadReport, displayOf}
+use Rattle.held_state.specs.Held.{loadReport, displayOf}
 use Rattle.detectors.specs.Laws.{PollAnswer}
 use Rattle.detectors.specs.Laws.PollAnswer.{improper, bad, silent, unlisted, passes as succeeds}
 use Rattle.polls.specs.Poll.{pollOf}
 use Rattle.polls.proofs.Answers.{poll-bad, poll-silent, poll-succeeds, poll-shows, poll-refused, poll-numbers}
-use Rattle.roadside.specs.Words.{displayWord, reportWord, DisplayParts, ReportParts, LoadFits}
+use Rattle.answer_words.specs.Words.{DisplayFits, LoadFits}
+use Rattle.answer_words.proofs.Parts.{display-reads-back, report-reads-back}
 use Rattle.roadside.specs.Laws.{PollWord, QueryWord, LoadWord}
 
 -- ---- a load
@@ -116,25 +117,13 @@ load-fits state s = go (hasStateSize state)
     go false = record { number = omega arith; place-a = omega arith; place-b = omega arith; count = omega arith }
 
 pub load-word : LoadWord
-unfolding reportWord
-load-word state s =
-    let f = load-fits state s in
-    record { number = omega arith; place-a = omega arith; place-b = omega arith; count = omega arith }
+load-word state s = report-reads-back (loadReport state s) (load-fits state s)
 
 -- ---- a query or a poll
 
--- what is shown fits eight bits a part
-record ShownFits (d : Shown) : Type 0 where
-  number : d .report .number < 256
-  place : d .report .a < 256
-  alone : d .report .b ≡ 0
-  count : d .report .count < 256
-  signal : d .signal < 256
-  green : d .green < 256
-
-parts : (d : Shown) → ShownFits d → DisplayParts (displayWord (displayOf d)) (displayOf d)
-unfolding displayWord
-parts d f = record { number = omega arith; place = omega arith; count = omega arith; signal = omega arith; green = omega arith; alone = f .alone }
+-- what is displayed of an answer fits
+abbrev ShownFits : Shown → Type 0
+ShownFits d = DisplayFits (displayOf d)
 
 -- a refusal
 turned-fits : (c : Controller) (n a : ℕ) → n < 256 → a < 256 → ShownFits (refused c (refusal n a))
@@ -190,7 +179,7 @@ poll-fits c p = ⊎-elim (turned 18 0 (omega arith) (omega arith) (λ z. omega a
         rw (poll-shows c p (h .1 .1 .0) (h .0) (h .1 .0) i) (showing-fits c (h .1 .1 .0) (h .0) (i .exists))
 
 pub query-word : QueryWord
-query-word state queues scale = parts (queryOf (heldIn state) queues scale) (query-fits (heldIn state) queues scale)
+query-word state queues scale = display-reads-back (displayOf (queryOf (heldIn state) queues scale)) (query-fits (heldIn state) queues scale)
 
 pub poll-word : PollWord
-poll-word state p = parts (pollOf (heldIn state) p) (poll-fits (heldIn state) p)
+poll-word state p = display-reads-back (displayOf (pollOf (heldIn state) p)) (poll-fits (heldIn state) p)

@@ -7,9 +7,9 @@ use Rattle.runs.specs.Claim.{RunClaim}
 use Rattle.controller.specs.declared.Shown.{Shown}
 use Rattle.controller.specs.State.{freshState, holding}
 use Rattle.packed_state.specs.State.{heldIn, bytesAfter}
-use Rattle.packed_state.specs.Held.{freshReport, loadReport, shownFor, displayOf}
+use Rattle.held_state.specs.Held.{freshReport, loadReport, shownFor, displayOf}
 use Rattle.polls.specs.Poll.{pollOf}
-use Rattle.roadside.specs.Words.{displayWord, reportWord, queuesIn}
+use Rattle.answer_words.specs.Words.{displayWord, reportWord, queuesIn}
 
 -- a fresh state
 abbrev pub FreshCall : List ℕ → List ℕ → ℕ → Type 0

@@ -1,5 +1,4 @@
 -- What the street cabinet's calls find and answer.
 pub mod FoundPolls
-pub mod Words
 pub mod Calls
 pub mod Laws

@@ -2,26 +2,23 @@
 // and answers one number of 64 bits, so that a refusal changes no lent byte.
 ghost use Rattle.roadside.specs.Calls.{FreshCall, LoadCall, QueryCall, PollCall};
 
-mod packing;
 pub mod polling;
-
-use packed_state::held;
 
 // The fresh state's bytes into a slice of their length; any other length gets 18, and no byte changes.
 #[no_mangle]
 pub extern "C" fn roadside_fresh(state: &mut [u8]) -> u64
     ensures { λ r. ⌜ FreshCall (now (state .entry)) (now (state .exit)) r ⌝ }
 {
-    let report = held::fresh(state);
+    let report = held_state::fresh(state);
     report.number as u64
 }
 
 // Loads any bytes into the state that the first slice holds; every run of an accepted certificate keeps the run claim.
 #[no_mangle]
-pub extern "C" fn roadside_load(state: &mut [u8], paper: &[u8]) -> u64
-    ensures { λ r. ⌜ LoadCall (now (paper .entry)) (now (state .entry)) (now (state .exit)) r ⌝ }
+pub extern "C" fn roadside_load(state: &mut [u8], bytes: &[u8]) -> u64
+    ensures { λ r. ⌜ LoadCall (now (bytes .entry)) (now (state .entry)) (now (state .exit)) r ⌝ }
 {
-    packing::report_word(held::load(state, paper))
+    answer_words::report_word(held_state::load(state, bytes))
 }
 
 // What the state that is held shows for queues over a scale, and the next state. Queues are four bytes each.
@@ -29,10 +26,10 @@ pub extern "C" fn roadside_load(state: &mut [u8], paper: &[u8]) -> u64
 pub extern "C" fn roadside_query(state: &mut [u8], queues: &[u8], scale: u32) -> u64
     ensures { λ r. ⌜ QueryCall (now (queues .entry)) scale (now (state .entry)) (now (state .exit)) r ⌝ }
 {
-    let read = packing::read_queues(queues);
+    let read = answer_words::read_queues(queues);
     let of = read.of;
     let count = read.count;
-    packing::display_word(held::query(state, &of[0..count], scale))
+    answer_words::display_word(held_state::query(state, &of[0..count], scale))
 }
 
 // What the state that is held shows for a poll, and the next state.
@@ -40,5 +37,5 @@ pub extern "C" fn roadside_query(state: &mut [u8], queues: &[u8], scale: u32) ->
 pub extern "C" fn roadside_poll(state: &mut [u8], poll: &[u8]) -> u64
     ensures { λ r. ⌜ PollCall (now (poll .entry)) (now (state .entry)) (now (state .exit)) r ⌝ }
 {
-    packing::display_word(polling::poll_held(state, poll))
+    answer_words::display_word(polling::poll_held(state, poll))
 }

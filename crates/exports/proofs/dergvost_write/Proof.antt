@@ -5,7 +5,7 @@ use lib.ListN.{length}
 use Rattle.packed_state.specs.State.{stateSize}
 use Rattle.packed_state.proofs.Packing.{is-state, is-none}
 use Rattle.exports.proofs.Answering.{nothing-done, all-done}
-use Rattle.packed_state.proofs.Lengths.{other-lengths}
+use Rattle.held_state.proofs.Lengths.{other-lengths}
 use borrow.Author.Needs.{needs}
 use Rattle.exports.proofs.dergvost_write.Statement.{statement}
 use Rattle.exports.proofs.dergvost_write.Tie as tie

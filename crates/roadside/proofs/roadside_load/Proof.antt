@@ -1,7 +1,7 @@
 -- `roadside::roadside_load` meets its contract: the load's answer as one number, the state's bytes afterwards, and the run claim. Assumes nothing.
 use mathlib.Core.Path.{_∙_, ap}
 use borrow.Author.Needs.{needs}
-use Rattle.roadside.specs.Words.{reportWord}
+use Rattle.answer_words.specs.Words.{reportWord}
 use Rattle.roadside.proofs.Words.{load-fits}
 use Rattle.roadside.proofs.roadside_load.Statement.{statement}
 use Rattle.roadside.proofs.roadside_load.Tie as tie
@@ -12,7 +12,7 @@ load-requires c κs = search needs
 report-word-requires : tie.Need-report-word-requires
 report-word-requires c κs =
     let a = c .before .before .before .before .before .before .args in
-    rw (c .before .before .load .ensures .report) (load-fits (a .state .now) (a .paper .now))
+    rw (c .before .before .load .ensures .report) (load-fits (a .state .now) (a .bytes .now))
 
 same-length : tie.Need-same-length
 same-length c = search needs

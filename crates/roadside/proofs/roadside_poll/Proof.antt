@@ -1,7 +1,7 @@
 -- `roadside::roadside_poll` meets its contract: what is shown as one number, and the state's bytes afterwards. Assumes nothing.
 use mathlib.Core.Path.{_∙_, ap}
 use borrow.Author.Needs.{needs}
-use Rattle.roadside.specs.Words.{displayWord}
+use Rattle.answer_words.specs.Words.{displayWord}
 use Rattle.roadside.proofs.roadside_poll.Statement.{statement}
 use Rattle.roadside.proofs.roadside_poll.Tie as tie
 

@@ -4,7 +4,7 @@ use native.Mathlib.Nat.{sub-zero}
 use borrow.Author.Needs.{needs}
 use lib.ListN.{length}
 use Rattle.certificate.specs.Layout.{maxLinks}
-use Rattle.roadside.specs.Words.{displayWord}
+use Rattle.answer_words.specs.Words.{displayWord}
 use Rattle.roadside.proofs.roadside_query.Statement.{statement}
 use Rattle.roadside.proofs.roadside_query.Tie as tie
 

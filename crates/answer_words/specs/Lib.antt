@@ -1,0 +1,3 @@
+-- How answers and queues cross to C.
+pub mod Words
+pub mod Laws

@@ -1,0 +1,2 @@
+-- Slices of other lengths, and what is kept.
+pub mod Lengths
