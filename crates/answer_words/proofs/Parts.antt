@@ -1,5 +1,4 @@
 -- The parts of an answer's number, read back by division. Assumes nothing.
-use Prim.Native.Nat.{ℕ}
 use native.Mathlib.Omega.{arith}
 use Rattle.answer_words.specs.Words.{displayWord, reportWord}
 use Rattle.answer_words.specs.Laws.{DisplayReadsBack, ReportReadsBack}

@@ -1,10 +1,10 @@
 -- The laws of a poll of a state: which number is answered when, and what is shown. Assumes nothing.
-use Prim.Native.Nat.{ℕ, _<_}
+use Prim.Native.Nat.{ℕ}
 use mathlib.Core.List.{List}
 use mathlib.Core.Logic.{_↔_, _⊎_, inl, inr, ⊎-elim}
 use mathlib.Core.Path.{_≡_, refl, sym, ap, _∙_}
 use native.Mathlib.Omega.{arith}
-use borrow.Author.Tests.{eq-eqb, ne-eqb}
+use borrow.Author.Tests.{ne-eqb}
 use Rattle.certificate.specs.declared.Report.{Report}
 use Rattle.certificate.specs.Checks.{refusal, fine}
 use Rattle.certificate.proofs.Tests.{need-pass, need-fail}
@@ -17,7 +17,7 @@ use Rattle.controller.specs.Query.{showing, refused}
 use Rattle.controller.specs.Laws.{HoldsCertificate, ShowsExisting}
 use Rattle.controller.proofs.Holding.{holds-is-plain}
 use Rattle.detectors.specs.Polls.{polledFault}
-use Rattle.detectors.specs.Laws.{PollAnswer, GoodPoll, ListsPolled}
+use Rattle.detectors.specs.Laws.{PollAnswer}
 use Rattle.detectors.specs.Laws.PollAnswer.{improper, bad, silent, unlisted, passes}
 use Rattle.detectors.proofs.Polled.{poll-is-plain, poll-answers}
 use Rattle.detectors.proofs.Unread.{unread}

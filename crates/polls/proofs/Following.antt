@@ -1,17 +1,15 @@
 -- A poll and the queries for its cell; queries and polls one after another, and beside a run. Assumes nothing.
 use Prim.Native.Nat.{ℕ, _≤_, _<_}
 use mathlib.Core.List.{List, [], _∷_}
-use mathlib.Core.Logic.{_⊎_, inl, inr, ⊎-elim}
+use mathlib.Core.Logic.{⊎-elim}
 use mathlib.Core.Path.{_≡_, refl, sym, ap, _∙_}
-use native.Mathlib.Nat.{mul-one, one-mul}
 use native.Mathlib.Omega.{arith}
-use lib.ListN.{length, getD}
 use lib.Pow.{pow-pos}
 use Rattle.certificate.specs.Checks.{refusal}
-use Rattle.certificate.specs.Layout.{linksOf, capOf, cellOf, cellsOf}
+use Rattle.certificate.specs.Layout.{linksOf, cellOf, cellsOf}
 use Rattle.certificate.specs.Facts.{Readable}
 use Rattle.grid.specs.Intervals.{InInterval}
-use Rattle.grid.specs.Cells.{intervalIn, lowerOf, InCell}
+use Rattle.grid.specs.Cells.{intervalIn, lowerOf}
 use Rattle.grid.proofs.Numbers.{is-choice}
 use Rattle.grid.proofs.Edges.{lower-most, lower-below-upper}
 use Rattle.grid.proofs.Intervals.{one-cell}
@@ -37,7 +35,7 @@ use Rattle.detectors.specs.Polls.{readingsOf, cellPolled}
 use Rattle.detectors.specs.Laws.{GoodPoll, ListsPolled}
 use Rattle.detectors.proofs.Cells.{poll-cell, poll-scale}
 use Rattle.polls.specs.Poll.{pollOf}
-use Rattle.polls.specs.Laws.{SameAsQueries, PollIsQuery, Call, callOf, afterCalls, CallsKeep, CallsRoundTrip, CallsRoundTripWrites, ReadsQueues, PollFollowsRun, PollAtMoment, CallAsks, noCall, CallsFollowRun}
+use Rattle.polls.specs.Laws.{PollIsQuery, Call, callOf, afterCalls, CallsKeep, CallsRoundTrip, CallsRoundTripWrites, ReadsQueues, PollFollowsRun, PollAtMoment, CallAsks, noCall, CallsFollowRun}
 use Rattle.polls.specs.Laws.Call.{query, poll}
 use Rattle.polls.proofs.Answers.{poll-unlisted, poll-shows, poll-refused, poll-keeps}
 

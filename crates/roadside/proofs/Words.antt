@@ -3,14 +3,13 @@ use Prim.Native.Nat.{ℕ, _+_, _*_, _^_, _≤_, _<_}
 use mathlib.Core.Bool.{Bool, true, false}
 use mathlib.Core.List.{List}
 use mathlib.Core.Logic.{_⊎_, inl, inr, ⊎-elim}
-use mathlib.Core.Path.{_≡_, refl, sym, ap, _∙_}
+use mathlib.Core.Path.{_≡_, refl, sym, _∙_}
 use native.Mathlib.Nat.{mul-le-mul, pow-le-pow-right, eq-or-lt-of-le}
 use native.Mathlib.Omega.{arith}
 use borrow.Author.Tests.{leb-true, leb-false}
 use lib.Dec.{leb, lit<}
 use lib.ListN.{length, take, length-take}
-use Rattle.certificate.specs.declared.Report.{Report}
-use Rattle.certificate.specs.Checks.{refusal, fine, need}
+use Rattle.certificate.specs.Checks.{refusal, need}
 use Rattle.certificate.specs.Layout.{maxLength, linksOf, signalsOf, boxesOf, entriesOf, cellsOf, greenByteOf, signalOf}
 use Rattle.certificate.specs.Facts.{Readable}
 use Rattle.certificate.specs.Reading.{readingOf}

@@ -1,6 +1,6 @@
 -- `answer_words::read_queues` meets its contract: the loop has the queues passed. Assumes nothing.
 use Prim.Native.Nat.{_*_, _-_, _/_, _≤_}
-use mathlib.Core.Path.{_≡_, refl, sym, _∙_}
+use mathlib.Core.Path.{_≡_, refl, sym}
 use native.Mathlib.Omega.{arith}
 use borrow.Author.Count.{below-none}
 use borrow.Author.Needs.{needs}
@@ -12,9 +12,6 @@ use Rattle.answer_words.specs.Words.{queueSize}
 use Rattle.answer_words.proofs.Queuing.{no-queues, too-many, not-whole, queues-read}
 use Rattle.answer_words.proofs.read_queues.Statement.{statement}
 use Rattle.answer_words.proofs.read_queues.Tie as tie
-use Rattle.answer_words.proofs.read_queues.Reads as reads
-use Rattle.answer_words.proofs.read_queues.Lts as lts
-use Rattle.packed_state.proofs.quad_at.Reads as quad-at-reads
 
 abbrev Inv-loop : tie.InvT-loop
 Inv-loop bytes of₀ size count l₀ of l = (l ≤ count) × Filled maxLinks l (λ k. quadAt bytes (queueSize * k)) of
@@ -22,61 +19,48 @@ Inv-loop bytes of₀ size count l₀ of l = (l ≤ count) × Filled maxLinks l (
 abbrev μ-loop : tie.MeasureT-loop
 μ-loop bytes of₀ size count l₀ of l = count - l
 
--- src/packing.rt:51:15
 mul-if1 : tie.Need-mul-if1 Inv-loop μ-loop
 mul-if1 c = search needs
 
--- src/packing.rt:52:9
 returns : tie.Need-returns Inv-loop μ-loop
 returns c =
     let b = c .before .before .args .bytes .now in
     record { most = omega arith; queues = sym (no-queues b (too-many b (search needs))) }
 
--- src/packing.rt:55:9
 returns-2 : tie.Need-returns-2 Inv-loop μ-loop
 returns-2 c =
     let b = c .before .before .before .args .bytes .now in
     record { most = omega arith; queues = sym (no-queues b (not-whole b (search needs))) }
 
--- src/packing.rt:59:5
 loop-holds : tie.Need-loop-holds Inv-loop μ-loop
 loop-holds c = (omega arith, (refl, below-none _))
 
--- src/packing.rt:60:46
 mul-quad-at : tie.Need-mul-quad-at Inv-loop μ-loop
 mul-quad-at c = search needs
 
--- src/packing.rt:60:17
 quad-at-requires : tie.Need-quad-at-requires Inv-loop μ-loop
 quad-at-requires c κs = search needs
 
--- src/packing.rt:60:17
 cast-of : tie.Need-cast-of Inv-loop μ-loop
 cast-of c = search needs
 
--- src/packing.rt:60:9
 mul-of : tie.Need-mul-of Inv-loop μ-loop
 mul-of c = search needs
 
--- src/packing.rt:60:9
 array-write-of : tie.Need-array-write-of Inv-loop μ-loop
 array-write-of c = search needs
 
--- src/packing.rt:61:9
 add-l : tie.Need-add-l Inv-loop μ-loop
 add-l c = search needs
 
--- src/packing.rt:59:5
 loop-less : tie.Need-loop-less Inv-loop μ-loop
 loop-less c = search needs
 
--- src/packing.rt:59:5
 loop-again : tie.Need-loop-again Inv-loop μ-loop
 loop-again c =
     let l = c .before .before .loop in
     (omega arith, filled-more maxLinks (l .l) _ (l .of) _ (l .inv .1) (omega arith) (c .quad-at .ensures .0))
 
--- src/packing.rt:46:1
 returns-3 : tie.Need-returns-3 Inv-loop μ-loop
 returns-3 c =
     let b = c .before .before .before .before .before .args .bytes .now in
