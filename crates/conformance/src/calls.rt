@@ -8,7 +8,6 @@
 use case_output::buffer;
 use certificate::Report;
 use controller::Controller;
-use roadside::polling;
 
 pub fn do_load(state: Controller, bytes: &[u8]) -> Controller {
     let loaded = state.load(bytes);

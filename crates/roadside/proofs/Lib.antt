@@ -1,4 +1,3 @@
--- From what the code finds to what the street cabinet's calls answer.
-pub mod Answering
+-- What crosses to C: the parts of an answer's number, states of other lengths, queues as bytes.
 pub mod Words
 pub mod Crossing

@@ -1,4 +1,3 @@
 -- What the street cabinet's calls find and answer.
-pub mod FoundPolls
 pub mod Calls
 pub mod Laws

@@ -1,8 +1,8 @@
 // The roadside unit: the calls of a street cabinet's C program, on numbers and byte slices. Each is thin: it lends what it is lent to a proved call
 // and answers one number of 64 bits, so that a refusal changes no lent byte.
-ghost use Rattle.roadside.specs.Calls.{FreshCall, LoadCall, QueryCall, PollCall};
-
-pub mod polling;
+ghost use Rattle.held_state.specs.Held.{Displayed};
+ghost use Rattle.roadside.specs.Calls.{FreshCall, LoadCall, QueryCall, polledFor, PollCall};
+use held_state::Display;
 
 // The fresh state's bytes into a slice of their length; any other length gets 18, and no byte changes.
 #[no_mangle]
@@ -32,10 +32,21 @@ pub extern "C" fn roadside_query(state: &mut [u8], queues: &[u8], scale: u32) ->
     answer_words::display_word(held_state::query(state, &of[0..count], scale))
 }
 
+// The poll of a state that is lent as bytes. Any other length of the state gets 18, and a refusal leaves its bytes as they were.
+fn poll_held(state: &mut [u8], bytes: &[u8]) -> Display
+    ensures { λ r. ⌜ Displayed (polledFor (now (state .entry)) (now (bytes .entry))) (now (state .entry)) (now (state .exit)) r ⌝ }
+{
+    if !packed_state::has_state_size(state) {
+        return held_state::no_state();
+    }
+    let c = packed_state::unpack(state);
+    held_state::keep(polling::poll(c, bytes), state)
+}
+
 // What the state that is held shows for a poll, and the next state.
 #[no_mangle]
 pub extern "C" fn roadside_poll(state: &mut [u8], poll: &[u8]) -> u64
     ensures { λ r. ⌜ PollCall (now (poll .entry)) (now (state .entry)) (now (state .exit)) r ⌝ }
 {
-    answer_words::display_word(polling::poll_held(state, poll))
+    answer_words::display_word(poll_held(state, poll))
 }
