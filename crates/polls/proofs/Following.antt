@@ -92,7 +92,7 @@ poll-is-query c p h g = record { every = every; some = (edges s R d exists, (1, 
     d = cellPolled s (readingsOf p)
 
     exists : d < cellsOf s
-    exists = let x = poll-scale s p (g .good) in poll-cell s R (readingsOf p) (g .good) _ (x .0) (pow-pos 1074) (x .1) .0 .exists
+    exists = let x = poll-scale s p (g .good) in poll-cell s R (readingsOf p) (g .good) _ (x .0) (pow-pos 1074) (x .1 .over) .0 .exists
 
     every : (queues : List ℕ) (scale : ℕ) → Proper s queues scale → cellAsked s queues scale ≡ d → queryOf c queues scale ≡ pollOf c p
     every queues scale P same =
