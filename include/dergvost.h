@@ -61,16 +61,17 @@ enum dergvost_place {
 enum dergvost_number {
     DERGVOST_DONE = 0, /* success; judge and load: count = successors looked up; list and write: A = bytes written */
 
-    /* screen, judge and load: the certificate is refused by reading (1 to 9) or the two conditions */
+    /* screen, judge and load: the certificate is refused by reading (1 to 9 and 22) or the two conditions */
     DERGVOST_CUT_SHORT = 1,      /* fewer bytes than the due record or its mark needs; A = offset of its start */
     DERGVOST_WRONG_MARK = 2,     /* wrong mark, or a byte after ZZ; A = that offset */
-    DERGVOST_BAD_HEADER = 3,     /* a field of HD is out of range; A = offset of the record, as for 4 to 9 */
+    DERGVOST_BAD_HEADER = 3,     /* a field of HD is out of range; A = offset of the record, as for 4 to 9 and 22 */
     DERGVOST_BAD_LINK = 4,       /* a field of an LK */
     DERGVOST_BAD_TURN = 5,       /* a field of a TN, its order, or its link's shares above 100 */
     DERGVOST_BAD_SIGNAL = 6,     /* the green byte of an SG */
     DERGVOST_BAD_GRID = 7,       /* the count or a cut of a GR */
     DERGVOST_BAD_ARRIVALS = 8,   /* a low or a high of an AR */
-    DERGVOST_BAD_ENTRY = 9,      /* a field of an EN, or its order */
+    DERGVOST_BAD_ENTRY = 9,      /* an EN names a missing cell, mode, signal or next mode */
+    DERGVOST_BAD_ORDER = 22,     /* its names exist, and its pair of cell and mode is not above that of the EN before it */
     DERGVOST_PULL_TOO_HIGH = 10, /* pull sum of a link too high; A = signal, B = link */
     DERGVOST_FLOW_TOO_HIGH = 11, /* flow condition of a turn fails; A = turn */
 
@@ -91,10 +92,10 @@ enum dergvost_number {
     DERGVOST_TOO_SHORT = 255 /* the report has too few places */
 };
 
-/* The tests before 12. Refused with 1 to 11. */
+/* The tests before 12. Refused with 1 to 9 and 22, then with 10 and 11. */
 uint32_t dergvost_screen(const uint8_t *certificate, size_t certificate_len, uint32_t *report, size_t report_len);
 
-/* The verdict. Refused with 1 to 15. */
+/* The verdict. Refused with 1 to 9 and 22, then with 10 to 15. */
 uint32_t dergvost_judge(const uint8_t *certificate, size_t certificate_len, uint32_t *report, size_t report_len);
 
 /* Puts the listing into the front of a buffer, of a refused certificate too; A is its length. Refused with 17. */
@@ -105,7 +106,7 @@ uint32_t dergvost_list(const uint8_t *certificate, size_t certificate_len, uint8
 uint32_t dergvost_fresh(uint8_t *state, size_t state_len);
 
 /* Judges a certificate; an accepted one is copied into the state, in place of what was there, and the mode is 0. It may be
- * called in any state. Refused with 18 for the state's length, then with 1 to 15. */
+ * called in any state. Refused with 18 for the state's length, then as judge. */
 uint32_t dergvost_load(uint8_t *state, size_t state_len, const uint8_t *certificate, size_t certificate_len,
                        uint32_t *report, size_t report_len);
 

@@ -59,13 +59,14 @@ enum roadside_number {
     /* the certificate of a load is refused */
     ROADSIDE_CUT_SHORT = 1,      /* fewer bytes than the due record or its mark needs; A = offset of its start */
     ROADSIDE_WRONG_MARK = 2,     /* wrong mark, or a byte after ZZ; A = that offset */
-    ROADSIDE_BAD_HEADER = 3,     /* a field of HD is out of range; A = offset of the record, as for 4 to 9 */
+    ROADSIDE_BAD_HEADER = 3,     /* a field of HD is out of range; A = offset of the record, as for 4 to 9 and 22 */
     ROADSIDE_BAD_LINK = 4,       /* a field of an LK */
     ROADSIDE_BAD_TURN = 5,       /* a field of a TN, its order, or its link's shares above 100 */
     ROADSIDE_BAD_SIGNAL = 6,     /* the green byte of an SG */
     ROADSIDE_BAD_GRID = 7,       /* the count or a cut of a GR */
     ROADSIDE_BAD_ARRIVALS = 8,   /* a low or a high of an AR */
-    ROADSIDE_BAD_ENTRY = 9,      /* a field of an EN, or its order */
+    ROADSIDE_BAD_ENTRY = 9,      /* an EN names a missing cell, mode, signal or next mode */
+    ROADSIDE_BAD_ORDER = 22,     /* its names exist, and its pair of cell and mode is not above that of the EN before it */
     ROADSIDE_PULL_TOO_HIGH = 10, /* pull sum of a link too high; A = signal, B = link */
     ROADSIDE_FLOW_TOO_HIGH = 11, /* flow condition of a turn fails; A = turn */
     ROADSIDE_NOT_SAFE = 12,      /* an entry's cell is not safe; A = entry, count before it */
@@ -102,7 +103,8 @@ enum roadside_number {
 uint64_t roadside_fresh(uint8_t *state, size_t state_len);
 
 /* Judges a certificate; an accepted one is copied into the state, in place of what was there, and the mode is 0. It may be
- * called in any state. Refused with 18 for the state's length, then with 1 to 15. */
+ * called in any state. Refused with 18 for the state's length, then with 1 to 9 and
+ * 22, then with 10 to 15. */
 uint64_t roadside_load(uint8_t *state, size_t state_len, const uint8_t *certificate, size_t certificate_len);
 
 /* Looks up the signal for queues that are whole numbers over one scale (roadside_put_quad), and passes to the next mode.

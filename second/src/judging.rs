@@ -6,7 +6,7 @@ use crate::grid::{cells, Cell, Interval};
 use crate::image::image;
 use crate::report::Report;
 
-/// Judges any bytes: 0 with the count, or the first refusal of 1 to 15.
+/// Judges any bytes: 0 with the count, or the first refusal of 1 to 15 and 22.
 pub fn judge(bytes: &[u8]) -> Report {
     match read_sound(bytes) {
         Ok(certificate) => judge_entries(&certificate),

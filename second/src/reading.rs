@@ -1,4 +1,4 @@
-//! Reading a certificate from bytes: refusals 1 to 9.
+//! Reading a certificate from bytes: refusals 1 to 9 and 22.
 
 use crate::certificate::{Arrival, Certificate, Entry, Link, Turn, MOST_AMOUNT, MOST_CELLS};
 use crate::report::Report;
@@ -205,7 +205,8 @@ fn read_arrivals(reader: &mut Reader, links: usize) -> Result<Vec<Arrival>, Repo
     Ok(arrivals)
 }
 
-/// Reads an entry; the certificate holds the entries before it.
+/// Reads an entry; the certificate holds the entries before it. 9 is for names that do not exist, 22 for a pair that is
+/// not above the one before.
 fn read_entry(
     reader: &mut Reader,
     certificate: &Certificate,
@@ -224,7 +225,7 @@ fn read_entry(
     record.must(9, usize::from(entry.signal) < certificate.signals.len())?;
     record.must(9, entry.next < certificate.modes)?;
     if let Some(before) = certificate.entries.last() {
-        record.must(9, (before.cell, before.mode) < (entry.cell, entry.mode))?;
+        record.must(22, (before.cell, before.mode) < (entry.cell, entry.mode))?;
     }
     Ok(entry)
 }

@@ -215,6 +215,17 @@ fn polls_that_differ_are_told() {
     ));
 }
 
+/// Numbers that no call gives yet can be due; the call then differs.
+#[test]
+fn later_numbers_are_told() {
+    let cases = format!("{EMPTY}case c\nload e\nload e\n");
+    let due = "case c\nload 22 0 0 0 mode 0 length 0\nload 28 0 0 0 mode 0 length 0\n";
+    let told = run(&folder("later", &cases, due)).unwrap();
+    assert_eq!((told.calls, told.agreed()), (2, 0));
+    let got = "due load 28 0 0 0 mode 0 length 0\n  got load 3 0 0 0 mode 0 length 0";
+    assert!(told.mismatches[1].ends_with(got));
+}
+
 /// The line of a poll is refused, as something else was expected there.
 fn bad_poll(line: &str, expected: &str) {
     let name = format!("bad-{}", line.replace(' ', "-"));
@@ -267,8 +278,8 @@ fn results_of_polls() {
     malformed(
         "poll-number",
         cases,
-        "case c\npoll 22 0 0 0 signal 0 green 00 mode 0\n",
-        "x.due:2: expected the result's number (a number from 0 to 21), found `22`",
+        "case c\npoll 29 0 0 0 signal 0 green 00 mode 0\n",
+        "x.due:2: expected the result's number (a number from 0 to 28), found `29`",
     );
     malformed(
         "poll-green",

@@ -64,6 +64,14 @@ fn what_cannot_be_read() {
     ends(&["decode", "-"], &L[..65], 1, b"", "-: refused 1 64 0 0\n");
     let faulty = bytes("header links 9\nend");
     ends(&["decode", "-"], &faulty, 1, b"", "-: refused 3 0 0 0\n");
+    let repeated = l_with("cell 1 mode", "cell 0 mode");
+    ends(
+        &["decode", "-"],
+        &repeated,
+        1,
+        b"",
+        "-: refused 22 46 0 0\n",
+    );
     ends_with_2(
         &["decode", "no/such/file"],
         b"",

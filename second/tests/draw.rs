@@ -147,6 +147,14 @@ fn refused_in_reading() {
             &l_with("flow 6", "flow 11")[..],
             "refused 4: a field of a link (LK) is out of bounds (A 9, B 0, count 0)",
         ),
+        (
+            &l_with("cell 2 mode", "cell 3 mode")[..],
+            "refused 9: an entry (EN) names a missing cell, mode, signal or next mode (A 55, B 0, count 0)",
+        ),
+        (
+            &l_with("cell 2 mode", "cell 1 mode")[..],
+            "refused 22: an entry (EN) is not above the one before by cell and mode (A 55, B 0, count 0)",
+        ),
     ] {
         let output = second(&["draw", "-", "0", "1"], faulty);
         assert_eq!(output.status.code(), Some(1));

@@ -1,8 +1,9 @@
-//! Refusals 1 to 9 with their order and places, and damaged inputs.
+//! Refusals 1 to 8 with their order and places, and damaged inputs.
 
 mod common;
 
-use common::{bytes, crossing, CROSSING, L, L_TEXT};
+use common::{bytes, crossing, CROSSING, L};
+use second::reading::read;
 use second::{judge, Report};
 
 /// Offsets of L's records.
@@ -105,14 +106,14 @@ fn turn_fields() {
     refused(&bytes(&CROSSING.replace(lines, swapped)), 5, TURN);
     // Exactly 100 in total can be read.
     let whole = bytes(&CROSSING.replace(line, "turn from 0 to 2 share 50 pull 40"));
-    assert!(judge(&whole).number > 9);
+    assert!(read(&whole).is_ok());
 }
 
 #[test]
 fn signal_of_an_absent_link() {
     refused(&l_poked(23, &[3]), 6, 21);
     refused(&l_poked(23, &[0x80]), 6, 21);
-    assert!(judge(&l_poked(23, &[0])).number > 9);
+    assert!(read(&l_poked(23, &[0])).is_ok());
 }
 
 #[test]
@@ -153,33 +154,7 @@ fn grid_product_before_cuts() {
 fn arrival_fields() {
     refused(&l_poked(33, &[0, 3]), 8, 31);
     refused(&l_poked(35, &[0x27, 0x11]), 8, 31);
-    assert!(judge(&l_poked(35, &[0x27, 0x10])).number > 9);
-}
-
-#[test]
-fn entry_fields() {
-    for (offset, new) in [
-        (48, &[0, 3][..]),
-        (48, &[1, 1]),
-        (50, &[1]),
-        (51, &[1]),
-        (52, &[1]),
-        (48, &[0, 0]),
-    ] {
-        refused(&l_poked(offset, new), 9, 46);
-    }
-    // A rank may be any value.
-    assert_eq!(judge(&l_poked(62, &[0xFF, 0xFF])).number, 0);
-}
-
-#[test]
-fn pairs_ascend_by_cell_then_mode() {
-    let two_modes = L_TEXT
-        .replace("entry cell 1 mode 0", "entry cell 0 mode 1")
-        .replace("rank 1", "rank 0");
-    assert!(judge(&bytes(&two_modes)).number > 9);
-    let back = two_modes.replace("cell 0 mode 0", "cell 0 mode 2");
-    refused(&bytes(&back), 9, 46);
+    assert!(read(&l_poked(35, &[0x27, 0x10])).is_ok());
 }
 
 #[test]

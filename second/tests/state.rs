@@ -1,4 +1,4 @@
-//! Load, query and write, with refusals 16 to 19.
+//! Load, query and write, with refusals 16 to 19, and states made by hand.
 
 mod common;
 
@@ -119,6 +119,30 @@ fn what_is_written_is_accepted_again() {
     let length = report.a as usize;
     assert_eq!(buffer[5..5 + length], crossing());
     assert_eq!(loaded(&buffer[5..5 + length]), state);
+}
+
+/// 9 and 22 are tests before 12: stored bytes that fail one are no certificate.
+#[test]
+fn entries_of_states_made_by_hand() {
+    let line = "entry cell 1 mode 0 signal 0";
+    for (number, other) in [
+        (9, "entry cell 3 mode 0 signal 0"),
+        (9, "entry cell 1 mode 0 signal 1"),
+        (22, "entry cell 0 mode 0 signal 0"),
+        (9, "entry cell 0 mode 0 signal 1"),
+    ] {
+        let faulty = l_with(line, other);
+        let mut state = State::by_hand(&faulty, 66, 0);
+        let before = state.clone();
+        assert_eq!(state.load(&faulty), Report::at(number, 46));
+        assert_eq!(state.query(&[6], 1), refused(18));
+        assert_eq!(state.poll(&[0; 18]), refused(18));
+        assert_eq!(state.query(&[11], 0), refused(18));
+        let mut buffer = [7; 66];
+        assert_eq!(state.write(&mut buffer, 0), Report::refusal(18));
+        assert_eq!(buffer, [7; 66]);
+        assert_eq!(state, before);
+    }
 }
 
 #[test]

@@ -6,7 +6,7 @@ use Rattle.certificate.specs.Octets.{bitOf, _also_}
 use Rattle.certificate.specs.Loops.{sumTo, everyOf, everyFrom, firstOfThese, findFrom, rounds, loopFrom}
 use Rattle.certificate.specs.Checks.{need, orElse, firstOf, firstFrom, marked, opened}
 use Rattle.certificate.specs.Layout.{turnsStart, signalsStart, gridStart, gridAt, productOf, arrivalsStart, entriesStart, endAt}
-use Rattle.certificate.specs.Records.{headerOk, headerFault, linkOk, linkFault, pairBelow, turnAscends, shareTotal, turnOk, turnFault, signalOk, signalFault, cutBefore, cutOk, cutFault, countOk, gridFault, rangeOk, rangeFault, arrivalFault, entryAscends, entryOk, entryFault, endFault}
+use Rattle.certificate.specs.Records.{headerOk, headerFault, linkOk, linkFault, pairBelow, turnAscends, shareTotal, turnOk, turnFault, signalOk, signalFault, cutBefore, cutOk, cutFault, countOk, gridFault, rangeOk, rangeFault, arrivalFault, entryAscends, namesExist, entryFault, endFault}
 use Rattle.certificate.specs.Reading.{linksFault, turnsFault, signalsFault, gridsFault, arrivalsFault, entriesFault, readingOf}
 use Rattle.network.specs.Flow.{leastTo, sent, passedIn, gross, next}
 use Rattle.network.specs.Conditions.{pullSum, pullFault, signalPullsFault, pullsFault, roomOk, roomFault, roomsFault, screeningOf}
@@ -29,7 +29,7 @@ due : Row → Answer
 due r = r .due
 
 computed : map given rows ≡ map due rows
-unfolding given due rows answer bitOf _also_ sumTo everyOf everyFrom firstOfThese findFrom rounds loopFrom need orElse firstOf firstFrom marked opened turnsStart signalsStart gridStart gridAt productOf arrivalsStart entriesStart endAt headerOk headerFault linkOk linkFault pairBelow turnAscends shareTotal turnOk turnFault signalOk signalFault cutBefore cutOk cutFault countOk gridFault rangeOk rangeFault arrivalFault entryAscends entryOk entryFault endFault linksFault turnsFault signalsFault gridsFault arrivalsFault entriesFault readingOf leastTo sent passedIn gross next pullSum pullFault signalPullsFault pullsFault roomOk roomFault roomsFault screeningOf beside lowCorner highCorner upperEdge intervalAt numberOf prefixOf intervalIn cellAt imageLow imageHigh meets isSuccessor entryFor isListed isSafe isGoal isRanked standingFault follows isLower successorFault countAfter lookFault cellRound boxRound entryRound judgingFrom verdictOf isProper cellFault lookupFault isCertificate queryFault queryOf
+unfolding given due rows answer bitOf _also_ sumTo everyOf everyFrom firstOfThese findFrom rounds loopFrom need orElse firstOf firstFrom marked opened turnsStart signalsStart gridStart gridAt productOf arrivalsStart entriesStart endAt headerOk headerFault linkOk linkFault pairBelow turnAscends shareTotal turnOk turnFault signalOk signalFault cutBefore cutOk cutFault countOk gridFault rangeOk rangeFault arrivalFault entryAscends namesExist entryFault endFault linksFault turnsFault signalsFault gridsFault arrivalsFault entriesFault readingOf leastTo sent passedIn gross next pullSum pullFault signalPullsFault pullsFault roomOk roomFault roomsFault screeningOf beside lowCorner highCorner upperEdge intervalAt numberOf prefixOf intervalIn cellAt imageLow imageHigh meets isSuccessor entryFor isListed isSafe isGoal isRanked standingFault follows isLower successorFault countAfter lookFault cellRound boxRound entryRound judgingFrom verdictOf isProper cellFault lookupFault isCertificate queryFault queryOf
 computed = refl
 
 each : (l : List Row) {r : Row} → map given l ≡ map due l → List·Memᴰ r l → given r ≡ due r

@@ -10,15 +10,16 @@ use lib.ListN.{length}
 use lib.Dec.{leb}
 use Rattle.certificate.specs.declared.Report.{Report}
 use Rattle.certificate.specs.Checks.{refusal, fine, need, orElse, firstBad}
-use Rattle.certificate.specs.Layout.{gridSize, fromOf, toOf, gridAt, intervalsOf, cellOf, modeOf, endSize, endAt}
-use Rattle.certificate.specs.Records.{headerFault, linkFault, turnAscends, turnFault, signalFault, cutFault, countOk, gridFault, rangeFault, arrivalFault, entryAscends, entryFault, endFault}
-use Rattle.certificate.specs.Facts.{GridFacts}
-use Rattle.certificate.specs.Due.{Kind, HD, LK, TN, SG, GR, AR, EN, ZZ, fieldNumber, recordAt, Marked, CountFacts, Whole, Line, TooShort, WrongMark, BrokenLine}
+use Rattle.certificate.specs.Layout.{gridSize, fromOf, toOf, gridAt, intervalsOf, entryAt, cellOf, modeOf, endSize, endAt}
+use Rattle.certificate.specs.Records.{headerFault, linkFault, turnAscends, turnFault, signalFault, cutFault, countOk, gridFault, rangeFault, arrivalFault, entryAscends, namesExist, entryFault, endFault}
+use Rattle.certificate.specs.Facts.{Mark, GridFacts, EntryFacts}
+use Rattle.certificate.specs.Due.{Kind, HD, LK, TN, SG, GR, AR, EN, ZZ, fieldNumber, recordAt, Marked, CountFacts, Whole, Line, TooShort, WrongMark}
 use Rattle.certificate.proofs.Tests.{need-pass, or-next, or-stop, or-both, both-or, passes, all-fine, fine-all, first-bad}
 use Rattle.certificate.proofs.Says.{tests-say}
 use Rattle.certificate.proofs.Ascending.{ascends-says}
 use Rattle.certificate.proofs.Records.{header-says, link-says, turn-says, signal-says, grid-says, box-says, entry-says, end-says}
 use Rattle.certificate.proofs.KindOrder.{placed}
+use Rattle.certificate.proofs.FieldTests.{Test, fields, order, kindOf, testNumber, Asks, Broken, none-earlier, names-earlier}
 use Rattle.certificate.proofs.Opening.{Opening, absent, wrong, short, opens, fails, opening}
 
 -- the tests of record i of a kind
@@ -51,7 +52,7 @@ Passes s k i = Whole s k i × Line s k i
 pub data Fault (s : List ℕ) (k : Kind) (i : ℕ) (r : Report) : Type 0 where
   too-short : TooShort s k i → r ≡ refusal 1 (recordAt s k i) → Fault s k i r
   wrong-mark : WrongMark s k i → r ≡ refusal 2 (recordAt s k i) → Fault s k i r
-  broken-line : BrokenLine s k i → r ≡ refusal (fieldNumber k) (linePlace s k i) → Fault s k i r
+  breaks : (t : Test) → kindOf t ≡ k → Broken s t i → r ≡ refusal (testNumber t) (linePlace s k i) → Fault s k i r
 
 -- r is the answer to it
 abbrev pub Answer : List ℕ → Kind → ℕ → Report → Type 0
@@ -116,9 +117,10 @@ module _ (s : List ℕ) (k : Kind) (i : ℕ) where
   record-answer : {size : ℕ} {first next : Report} → Opening s (recordAt s k i) (Marked s k i) size first
       → Whole s k i ↔ (recordAt s k i + size ≤ length s)
       → (orElse first next .number ≡ 0) ↔ Passes s k i
+      → (Asks s (fields k) i → Line s k i)
       → (next ≡ fine) ⊎ (next ≡ refusal (fieldNumber k) (linePlace s k i))
       → Answer s k i (orElse first next)
-  record-answer {size} {first} {next} begins whole says ends = after-opening begins (whole .0) further
+  record-answer {size} {first} {next} begins whole says asked ends = after-opening begins (whole .0) further
     where
       not-zero : next ≡ refusal (fieldNumber k) (linePlace s k i) → next .number ≡ 0 → ⊥
       not-zero e z = let same : next .number ≡ fieldNumber k = ap (λ (r : Report). r .number) e in omega (arith, placed k .least)
@@ -128,7 +130,7 @@ module _ (s : List ℕ) (k : Kind) (i : ℕ) where
           ⊎-elim
           (λ (e : next ≡ fine). inl (says .0 (both-or first next z (ap (λ (r : Report). r .number) e)), e))
           (λ (e : next ≡ refusal (fieldNumber k) (linePlace s k i)).
-          inr (broken-line (mark, whole .1 long, λ line. not-zero e (or-both first next (says .1 (whole .1 long, line)) .1)) e))
+          inr (breaks (fields k) refl (mark, whole .1 long, none-earlier s i k, λ line. not-zero e (or-both first next (says .1 (whole .1 long, asked line)) .1)) e))
           ends
 
 -- a test goes one way or the other
@@ -143,7 +145,7 @@ unfolding gridFault cutFault
 grid-answer s l =
     after-opening s GR l (opening s _ _ _ _) (λ whole. whole .0) λ z mark three.
     by-need (Answer s GR l) _
-    (λ bad. inr (broken-line (mark, (three, λ count. absurd (bad-count bad count)), λ line. bad-count bad (counted line)) refl)) λ count.
+    (λ bad. inr (breaks (fields GR) refl (mark, (three, λ count. absurd (bad-count bad count)), none-earlier s l GR, λ line. bad-count bad (counted line)) refl)) λ count.
     by-need (Answer s GR l) _
     (λ cut. inr (too-short (inr (mark, λ whole. fails (le-leb _ _) cut (whole .1 (count-says s l .0 count)))) refl)) λ long.
     let tested : gridFault s l ≡ firstBad (intervalsOf s l - 1) (cutFault s l) = or-next _ _ z ∙ need-pass _ _ _ count ∙ need-pass _ _ _ long in
@@ -151,7 +153,7 @@ grid-answer s l =
     (λ (e : firstBad (intervalsOf s l - 1) (cutFault s l) ≡ fine). inl (record-says s GR l .0 (ap (λ (r : Report). r .number) (tested ∙ e)), e))
     (λ (e : firstBad (intervalsOf s l - 1) (cutFault s l) ≡ refusal 7 (gridAt s l)).
     let whole : Whole s GR l = (three, λ _. leb-true _ _ long) in
-    inr (broken-line (mark, whole, λ line. not-seven (rw (tested ∙ e) at (record-says s GR l .1 (whole, line)))) e))
+    inr (breaks (fields GR) refl (mark, whole, none-earlier s l GR, λ line. not-seven (rw (tested ∙ e) at (record-says s GR l .1 (whole, line)))) e))
     (loop-ends _ _ _ (λ i. need-ends _ _))
   where
     bad-count : countOk s l ≡ false → CountFacts s l → ⊥
@@ -160,13 +162,30 @@ grid-answer s l =
     not-seven : _≡_ {A = ℕ} 7 0 → ⊥
     not-seven e = omega arith
 
+-- EN: the names are tested before the order
+names-say : (s : List ℕ) (e : ℕ) → Mark s (entryAt s e) 69 78 → (namesExist s e ≡ true) ↔ EntryFacts s e
+unfolding namesExist
+names-say s e mark = simp tests-say (omega arith)
+
+entry-answer : (s : List ℕ) (e : ℕ) → Answer s EN e (entryFault s e)
+unfolding entryFault entryAscends
+entry-answer s e =
+    after-opening s EN e (opening s _ _ _ _) (λ whole. whole) λ z mark whole.
+    by-need (Answer s EN e) _
+    (λ bad. inr (breaks (fields EN) refl (mark, whole, none-earlier s e EN, fails (names-say s e mark .1) bad) refl)) λ exist.
+    let names = names-say s e mark .0 exist in
+    let above = ascends-says (cellOf s) (modeOf s) (entryAscends s) refl (λ e. refl) e in
+    by-need (Answer s EN e) _
+    (λ bad. inr (breaks order refl (mark, whole, names-earlier s e names, fails (above .1) bad) refl)) λ ascends.
+    inl ((whole, (names, above .0 ascends)), refl)
+
 pub answer : (s : List ℕ) (k : Kind) (i : ℕ) → Answer s k i (faultOf s k i)
-unfolding headerFault linkFault turnFault signalFault arrivalFault rangeFault entryFault endFault
-answer s HD i = record-answer s HD i (opening s _ _ _ _) Iff·rfl (record-says s HD i) (need-ends _ _)
-answer s LK i = record-answer s LK i (opening s _ _ _ _) Iff·rfl (record-says s LK i) (need-ends _ _)
-answer s TN i = record-answer s TN i (opening s _ _ _ _) Iff·rfl (record-says s TN i) (need-ends _ _)
-answer s SG i = record-answer s SG i (opening s _ _ _ _) Iff·rfl (record-says s SG i) (need-ends _ _)
+unfolding headerFault linkFault turnFault signalFault arrivalFault rangeFault endFault
+answer s HD i = record-answer s HD i (opening s _ _ _ _) Iff·rfl (record-says s HD i) (λ line. line) (need-ends _ _)
+answer s LK i = record-answer s LK i (opening s _ _ _ _) Iff·rfl (record-says s LK i) (λ line. line) (need-ends _ _)
+answer s TN i = record-answer s TN i (opening s _ _ _ _) Iff·rfl (record-says s TN i) (λ line. line) (need-ends _ _)
+answer s SG i = record-answer s SG i (opening s _ _ _ _) Iff·rfl (record-says s SG i) (λ line. line) (need-ends _ _)
 answer s GR i = grid-answer s i
-answer s AR i = record-answer s AR i (opening s _ _ _ _) Iff·rfl (record-says s AR i) (loop-ends _ _ _ (λ l. need-ends _ _))
-answer s EN i = record-answer s EN i (opening s _ _ _ _) Iff·rfl (record-says s EN i) (need-ends _ _)
-answer s ZZ i = record-answer s ZZ i (opening s _ _ _ _) Iff·rfl (record-says s ZZ i) (need-ends _ _)
+answer s AR i = record-answer s AR i (opening s _ _ _ _) Iff·rfl (record-says s AR i) (λ line. line) (loop-ends _ _ _ (λ l. need-ends _ _))
+answer s EN i = entry-answer s i
+answer s ZZ i = record-answer s ZZ i (opening s _ _ _ _) Iff·rfl (record-says s ZZ i) (λ line. line) (need-ends _ _)

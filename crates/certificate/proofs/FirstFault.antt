@@ -5,37 +5,39 @@ use mathlib.Core.Path.{_≡_, refl, sym, ap, _∙_}
 use mathlib.Core.Logic.{_↔_, inl, inr, ⊎-elim}
 use native.Mathlib.Omega.{arith}
 use Rattle.certificate.specs.declared.Report.{Report}
-use Rattle.certificate.specs.Checks.{fine, orElse, firstOf, firstFrom, firstBad}
+use Rattle.certificate.specs.Checks.{refusal, fine, orElse, firstOf, firstFrom, firstBad}
 use Rattle.certificate.specs.Records.{headerFault, endFault}
 use Rattle.certificate.specs.Reading.{linksFault, turnsFault, signalsFault, gridsFault, arrivalsFault, entriesFault, readingOf}
 use Rattle.certificate.specs.Facts.{PairBelow}
-use Rattle.certificate.specs.Due.{Kind, HD, ZZ, orderOf, fieldNumber, manyOf, Due}
+use Rattle.certificate.specs.Due.{Kind, HD, ZZ, orderOf, manyOf, Due}
 use Rattle.certificate.proofs.Tests.{or-next, or-stop, passes, all-fine, fine-all, first-stop, FirstBad, first-bad}
 use Rattle.certificate.proofs.KindOrder.{kindAt, placed, order-at, same-order, line-marked, not-whole, not-wrong}
-use Rattle.certificate.proofs.Faults.{faultOf, Passes, Fault, too-short, wrong-mark, broken-line, record-says, answer}
+use Rattle.certificate.proofs.FieldTests.{Test, testNumber, test-least, line-asks, one-broken}
+use Rattle.certificate.proofs.Faults.{faultOf, linePlace, Passes, Fault, too-short, wrong-mark, breaks, record-says, answer}
 
 -- a record at fault does not pass, and has one refusal, whose number is not 0
 module _ (s : List ℕ) (k : Kind) (i : ℕ) where
   at-fault : {r : Report} → Fault s k i r → Passes s k i → ⊥
   at-fault (too-short f e) p = not-whole s k i f (p .0)
   at-fault (wrong-mark f e) p = f .1 (line-marked s k i (p .1))
-  at-fault (broken-line f e) p = f .2 (p .1)
+  at-fault (breaks t same f e) p = f .3 (line-asks s i t (rw same (p .1)))
 
   one-refusal : {r t : Report} → Fault s k i r → Fault s k i t → r ≡ t
   one-refusal (too-short f e) (too-short g d) = e ∙ sym d
   one-refusal (too-short f e) (wrong-mark g d) = absurd (not-wrong s k i f g)
-  one-refusal (too-short f e) (broken-line g d) = absurd (not-whole s k i f (g .1))
+  one-refusal (too-short f e) (breaks u same g d) = absurd (not-whole s k i f (rw same at (g .1)))
   one-refusal (wrong-mark f e) (too-short g d) = absurd (not-wrong s k i g f)
   one-refusal (wrong-mark f e) (wrong-mark g d) = e ∙ sym d
-  one-refusal (wrong-mark f e) (broken-line g d) = absurd (f .1 (g .0))
-  one-refusal (broken-line f e) (too-short g d) = absurd (not-whole s k i g (f .1))
-  one-refusal (broken-line f e) (wrong-mark g d) = absurd (g .1 (f .0))
-  one-refusal (broken-line f e) (broken-line g d) = e ∙ sym d
+  one-refusal (wrong-mark f e) (breaks u same g d) = absurd (f .1 (rw same at (g .0)))
+  one-refusal (breaks t same f e) (too-short g d) = absurd (not-whole s k i g (rw same at (f .1)))
+  one-refusal (breaks t same f e) (wrong-mark g d) = absurd (g .1 (rw same at (f .0)))
+  one-refusal (breaks t same f e) (breaks u also g d) =
+      e ∙ ap (λ (v : Test). refusal (testNumber v) (linePlace s k i)) (one-broken s i t u (same ∙ sym also) f g) ∙ sym d
 
   refuses : {r : Report} → Fault s k i r → r .number ≡ 0 → ⊥
   refuses {r} (too-short f e) z = let n : r .number ≡ 1 = ap (λ (t : Report). t .number) e in omega arith
   refuses {r} (wrong-mark f e) z = let n : r .number ≡ 2 = ap (λ (t : Report). t .number) e in omega arith
-  refuses {r} (broken-line f e) z = let n : r .number ≡ fieldNumber k = ap (λ (t : Report). t .number) e in omega (arith, placed k .least)
+  refuses {r} (breaks t same f e) z = let n : r .number ≡ testNumber t = ap (λ (v : Report). v .number) e in omega (arith, test-least t)
 
   -- its answer is `fine` or a refusal
   clean : faultOf s k i .number ≡ 0 → faultOf s k i ≡ fine

@@ -6,7 +6,6 @@ use mathlib.Core.Logic.{inl, inr}
 use native.Mathlib.Omega.{arith}
 use lib.Dec.{eqb}
 use Rattle.certificate.specs.Loops.{pick}
-use Rattle.certificate.specs.Laws.{ReadingNumber, up-to-nine}
 use Rattle.certificate.specs.Due.{Kind, HD, LK, TN, SG, GR, AR, EN, ZZ, orderOf, fieldNumber, Present, Marked, Whole, Line, TooShort, WrongMark}
 
 -- the kind of a place in the order, and the place of the kind with a refusal
@@ -27,19 +26,19 @@ pub record Placed (k : Kind) : Type 0 where
   pub at : kindAt (orderOf k) ≡ k
   pub below : orderOf k < 8
   pub least : 2 ≤ fieldNumber k
-  pub number : ReadingNumber (fieldNumber k)
+  pub most : fieldNumber k ≤ 9
   pub by-number : numberOrder (fieldNumber k) ≡ orderOf k
 
 pub placed : (k : Kind) → Placed k
 unfolding kindAt numberOrder
-placed HD = record { at = refl; below = omega arith; least = omega arith; number = up-to-nine (omega arith); by-number = refl }
-placed LK = record { at = refl; below = omega arith; least = omega arith; number = up-to-nine (omega arith); by-number = refl }
-placed TN = record { at = refl; below = omega arith; least = omega arith; number = up-to-nine (omega arith); by-number = refl }
-placed SG = record { at = refl; below = omega arith; least = omega arith; number = up-to-nine (omega arith); by-number = refl }
-placed GR = record { at = refl; below = omega arith; least = omega arith; number = up-to-nine (omega arith); by-number = refl }
-placed AR = record { at = refl; below = omega arith; least = omega arith; number = up-to-nine (omega arith); by-number = refl }
-placed EN = record { at = refl; below = omega arith; least = omega arith; number = up-to-nine (omega arith); by-number = refl }
-placed ZZ = record { at = refl; below = omega arith; least = omega arith; number = up-to-nine (omega arith); by-number = refl }
+placed HD = record { at = refl; below = omega arith; least = omega arith; most = omega arith; by-number = refl }
+placed LK = record { at = refl; below = omega arith; least = omega arith; most = omega arith; by-number = refl }
+placed TN = record { at = refl; below = omega arith; least = omega arith; most = omega arith; by-number = refl }
+placed SG = record { at = refl; below = omega arith; least = omega arith; most = omega arith; by-number = refl }
+placed GR = record { at = refl; below = omega arith; least = omega arith; most = omega arith; by-number = refl }
+placed AR = record { at = refl; below = omega arith; least = omega arith; most = omega arith; by-number = refl }
+placed EN = record { at = refl; below = omega arith; least = omega arith; most = omega arith; by-number = refl }
+placed ZZ = record { at = refl; below = omega arith; least = omega arith; most = omega arith; by-number = refl }
 
 pub order-at : (n : ℕ) → n < 8 → orderOf (kindAt n) ≡ n
 unfolding kindAt

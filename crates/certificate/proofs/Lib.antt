@@ -14,6 +14,7 @@ pub mod LongBack
 pub mod LongInput
 pub mod Opening
 pub mod KindOrder
+pub mod FieldTests
 pub mod Faults
 pub mod FirstFault
 pub mod Refusals

@@ -10,9 +10,9 @@ use lib.ListN.{length}
 use Rattle.certificate.specs.Octets.{byteAt}
 use Rattle.certificate.specs.Checks.{refusal}
 use Rattle.certificate.specs.Layout.{maxLinks, maxBoxes, maxEntries, maxIntervals, gridSize, arrivalSize, entrySize, endSize, linksOf, boxesOf, entriesOf, capOf, gridStart, gridAt, intervalsOf, cutOf, productOf, cellsOf, arrivalsStart, arrivalAt, lowOf, highOf, entriesStart, entryAt, cellOf, modeOf, signalOf, nextModeOf, endAt}
-use Rattle.certificate.specs.Records.{cutBefore, cutOk, cutFault, countOk, gridFault, rangeOk, rangeFault, arrivalFault, entryAscends, entryOk, entryFault, endFault}
+use Rattle.certificate.specs.Records.{cutBefore, cutOk, cutFault, countOk, gridFault, rangeOk, rangeFault, arrivalFault, namesExist, entryAscends, entryFault, endFault}
 use Rattle.certificate.proofs.Tests.{also-both, need-both, or-both}
-use Rattle.certificate.proofs.Agreement.{or-same, need-same, loop-same, Agree, byte-same, u16-same, present, marked-opened, record-same}
+use Rattle.certificate.proofs.Agreement.{or-same, need-same, loop-same, Agree, byte-same, u16-same, present, marked-opened}
 use Rattle.certificate.proofs.LongFront.{Counts, links-same, signals-same, modes-same, boxes-same, entries-same, gridsMost, grid-start, grid-most}
 
 -- a grid record that passes has at most 15 intervals
@@ -143,13 +143,17 @@ module _ {s t : List ℕ} (A : Agree s t) (C : Counts s) where
     entry-ascends (suc e) h = cc (cell-same e (omega arith), mode-same e (omega arith), cell-same (suc e) h, mode-same (suc e) h)
 
     pub entry-same : (e : ℕ) → e < entriesOf s → entryFault s e ≡ entryFault t e
-    unfolding entryFault entryOk
+    unfolding entryFault namesExist
     entry-same e h =
         let signal : signalOf s e ≡ signalOf t e = entry-byte 5 (omega arith) e h in
         let next : nextModeOf s e ≡ nextModeOf t e = entry-byte 6 (omega arith) e h in
         let cells : cellsOf s ≡ cellsOf t = product-same (linksOf s) (omega arith) few (linksOf s) (omega arith) ∙ ap (productOf t) (links-same A) in
-        record-same A _ _ _ _ (omega (arith, entries-start)) (omega arith) (omega (arith, entries-most, C .entries))
-        (cc (cell-same e h, mode-same e h, entry-ascends e h, signals-same A, modes-same A))
+        let names : namesExist s e ≡ namesExist t e = cc (cell-same e h, mode-same e h, signals-same A, modes-same A) in
+        let order : entryAscends s e ≡ entryAscends t e = entry-ascends e h in
+        let place : entryAt s e ≡ entryAt t e = omega (arith, entries-start) in
+        or-same (marked-opened A _ _ place refl (omega arith) (omega (arith, entries-most, C .entries)))
+        (λ _. need-same (cc) (ap (refusal _) place)
+        (λ _. need-same (cc) (ap (refusal _) place) (λ _. refl)))
 
     -- both strings go on after ZZ, so both are refused there
     pub end-same : endFault s ≡ endFault t

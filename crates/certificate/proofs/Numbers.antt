@@ -7,11 +7,11 @@ use native.Mathlib.Omega.{arith}
 use Rattle.certificate.specs.declared.Report.{Report}
 use Rattle.certificate.specs.Reading.{readingOf}
 use Rattle.certificate.specs.Due.{Kind}
-use Rattle.certificate.specs.Laws.{ReadingNumber, up-to-nine, ReadingNumbers}
+use Rattle.certificate.specs.Laws.{ReadingNumber, up-to-nine, of-order, ReadingNumbers}
 use Rattle.certificate.proofs.Tests.{passes}
 use Rattle.certificate.proofs.Plain.{reading-is-fine}
-use Rattle.certificate.proofs.KindOrder.{placed}
-use Rattle.certificate.proofs.Faults.{Fault, too-short, wrong-mark, broken-line}
+use Rattle.certificate.proofs.FieldTests.{test-number}
+use Rattle.certificate.proofs.Faults.{Fault, too-short, wrong-mark, breaks}
 use Rattle.certificate.proofs.FirstFault.{first-fault}
 
 -- a result with a number of reading, and no count
@@ -22,12 +22,13 @@ pub record OfReading (r : Report) : Type 0 where
 -- no number of reading is one of the stages after it, 10 to 15; said so that omega reads it
 pub reading-apart : (n : ℕ) → ReadingNumber n → min (n - 9) (16 - n) ≡ 0
 reading-apart n (up-to-nine h) = omega arith
+reading-apart n (of-order e) = omega arith
 
 -- the refusal of a record
 of-fault : (s : List ℕ) (k : Kind) (i : ℕ) (r : Report) → Fault s k i r → OfReading r
 of-fault s k i r (too-short f e) = rw e (record { number = up-to-nine (omega arith); no-count = refl })
 of-fault s k i r (wrong-mark f e) = rw e (record { number = up-to-nine (omega arith); no-count = refl })
-of-fault s k i r (broken-line f e) = rw e (record { number = placed k .number; no-count = refl })
+of-fault s k i r (breaks t same f e) = rw e (record { number = test-number t; no-count = refl })
 
 pub of-reading : (s : List ℕ) → OfReading (readingOf s)
 of-reading s =

@@ -114,7 +114,8 @@ module _ (s : List ℕ) where
   entries-fit : entriesStart s ≤ length s → Stretch (length s) (entriesFault s) (endAt s)
   unfolding entriesFault entryFault endAt
   entries-fit h =
-      records-fit _ (entriesOf s) (entryFault s) (entryAt s) (omega arith) (λ e z. omega (arith, entry-says s e .0 z .0)) (λ e. record-fits (entryAt s e) _ _ _ _)
+      records-fit _ (entriesOf s) (entryFault s) (entryAt s) (omega arith) (λ e z. omega (arith, entry-says s e .0 z .0))
+      (λ e h. or-fits _ (opened-fits _ _ _ h) (λ _. need-fits _ _ (refusal-fits _ _ _ h) (test-fits _ _ _ _ h)))
 
   end-fits : endAt s ≤ length s → Fits (length s) (endFault s)
   unfolding endFault

@@ -10,7 +10,7 @@ use lib.ListN.{length}
 use lib.Dec.{leb}
 use Rattle.certificate.specs.Checks.{fine}
 use Rattle.certificate.specs.Layout.{headerSize, linkSize, turnSize, signalSize, gridSize, arrivalSize, entrySize, endSize, linksOf, linkAt, turnAt, signalAt, gridAt, intervalsOf, cutOf, capOf, arrivalAt, entryAt, endAt}
-use Rattle.certificate.specs.Records.{headerOk, headerFault, linkOk, linkFault, turnAscends, shareTotal, turnOk, turnFault, signalOk, signalFault, cutBefore, cutOk, cutFault, countOk, gridFault, rangeOk, rangeFault, arrivalFault, entryAscends, entryOk, entryFault, endFault}
+use Rattle.certificate.specs.Records.{headerOk, headerFault, linkOk, linkFault, turnAscends, shareTotal, turnOk, turnFault, signalOk, signalFault, cutBefore, cutOk, cutFault, countOk, gridFault, rangeOk, rangeFault, arrivalFault, namesExist, entryAscends, entryFault, endFault}
 use Rattle.certificate.specs.Facts.{Mark, HeaderFacts, LinkFacts, TurnFacts, SignalFacts, GridFacts, BoxFacts, EntryFacts}
 use Rattle.certificate.proofs.Says.{says}
 use Rattle.certificate.proofs.Ascending.{all-ascend}
@@ -36,8 +36,8 @@ unfolding turnFault turnOk
 turn-says s t = simp says (λ h. (omega arith, omega arith, h .1 .0 .0 .1, omega arith), λ h. (omega arith, (((omega arith, h .2), omega arith), refl)))
 
 pub entry-says : (s : List ℕ) (e : ℕ) → (entryFault s e .number ≡ 0) ↔ (Within s (entryAt s e) entrySize × EntryFacts s e × (entryAscends s e ≡ true))
-unfolding entryFault entryOk
-entry-says s e = simp says (λ h. (omega arith, omega arith, h .1 .0 .1), λ h. (omega arith, ((omega arith, h .2), refl)))
+unfolding entryFault namesExist
+entry-says s e = simp says (λ h. (omega arith, omega arith, search h), λ h. search (h, refl, arith))
 
 pub end-says : (s : List ℕ) → (endFault s .number ≡ 0) ↔ ((length s ≡ endAt s + endSize) × Mark s (endAt s) 90 90)
 unfolding endFault

@@ -9,10 +9,10 @@ use Rattle.certificate.specs.declared.Report.{Report}
 use Rattle.certificate.specs.Checks.{result, refusal}
 use Rattle.certificate.specs.Layout.{endSize, endAt}
 use Rattle.certificate.specs.Reading.{readingOf}
-use Rattle.certificate.specs.Due.{Kind, HD, LK, TN, SG, GR, AR, EN, ZZ, fieldNumber, recordAt, Due, TooShort, WrongMark, BrokenLine}
+use Rattle.certificate.specs.Due.{Kind, HD, LK, TN, SG, GR, AR, EN, ZZ, fieldNumber, recordAt, Line, Due, TooShort, WrongMark, BrokenLine, MissingName, WrongOrder}
 use Rattle.certificate.specs.Laws.{ReadingNumber, up-to-nine, DueAt, GoesOnAt, RefusedField, Refusals, ReadingRefuses}
-use Rattle.certificate.proofs.KindOrder.{placed, same-number}
-use Rattle.certificate.proofs.Faults.{linePlace, Fault, too-short, wrong-mark, broken-line}
+use Rattle.certificate.proofs.FieldTests.{Test, fields, order, kindOf, testNumber, Asks, Broken, test-least, test-number, same-test, broken-line, missing-name, wrong-order}
+use Rattle.certificate.proofs.Faults.{linePlace, Fault, too-short, wrong-mark, breaks}
 use Rattle.certificate.proofs.FirstFault.{FirstFault, reading-law}
 
 -- a result is a refusal, part by part
@@ -32,15 +32,16 @@ parts m a b n k o e =
     }
 
 -- a field's refusal names the record's start
-field-place : (s : List ℕ) (k : Kind) (i : ℕ) → 3 ≤ fieldNumber k → linePlace s k i ≡ recordAt s k i
-field-place s HD i least = refl
-field-place s LK i least = refl
-field-place s TN i least = refl
-field-place s SG i least = refl
-field-place s GR i least = refl
-field-place s AR i least = refl
-field-place s EN i least = refl
-field-place s ZZ i least = absurd (omega arith)
+test-place : (s : List ℕ) (t : Test) (i : ℕ) → 3 ≤ testNumber t → linePlace s (kindOf t) i ≡ recordAt s (kindOf t) i
+test-place s (fields HD) i least = refl
+test-place s (fields LK) i least = refl
+test-place s (fields TN) i least = refl
+test-place s (fields SG) i least = refl
+test-place s (fields GR) i least = refl
+test-place s (fields AR) i least = refl
+test-place s (fields EN) i least = refl
+test-place s (fields ZZ) i least = absurd (omega arith)
+test-place s order i least = refl
 
 -- what the record that is due says of a result
 module _ (s : List ℕ) (a b n : ℕ) where
@@ -50,7 +51,7 @@ module _ (s : List ℕ) (a b n : ℕ) where
       there : (k : Kind) (i : ℕ) → Due s k i → Fault s k i (result 1 a b n) → DueAt TooShort s a × (b ≡ 0) × (n ≡ 0)
       there k i due (too-short f e) = let p = parts _ _ _ _ _ _ e in ((k, i, due, f, p .place), p .alone, p .no-count)
       there k i due (wrong-mark f e) = let p = parts _ _ _ _ _ _ e in absurd (omega arith)
-      there k i due (broken-line f e) = let p = parts _ _ _ _ _ _ e in absurd (omega (arith, placed k .least))
+      there k i due (breaks t same f e) = let p = parts _ _ _ _ _ _ e in absurd (omega (arith, test-least t))
 
       back : DueAt TooShort s a × (b ≡ 0) × (n ≡ 0) → FirstFault s (result 1 a b n)
       back ((k, i, due, f, place), alone, no-count) = record { kind = k; index = i; due = due; fault = too-short f (rw (place, alone, no-count)) }
@@ -67,53 +68,66 @@ module _ (s : List ℕ) (a b n : ℕ) where
       there : (k : Kind) (i : ℕ) → Due s k i → Fault s k i (result 2 a b n) → (DueAt WrongMark s a ⊎ GoesOnAt s a) × (b ≡ 0) × (n ≡ 0)
       there k i due (too-short f e) = let p = parts _ _ _ _ _ _ e in absurd (omega arith)
       there k i due (wrong-mark f e) = let p = parts _ _ _ _ _ _ e in (inl (k, i, due, f, p .place), p .alone, p .no-count)
-      there k i due (broken-line f e) =
+      there k i due (breaks t same f e) =
           let p = parts _ _ _ _ _ _ e in
-          let same : k ≡ ZZ = same-number k ZZ (sym (p .number)) in
-          (inr (goes-on i (rw same at due) (rw same at f) (rw same at (p .place))), p .alone, p .no-count)
+          let test : t ≡ fields ZZ = same-test t (fields ZZ) (sym (p .number)) in
+          let kind : k ≡ ZZ = sym same ∙ ap kindOf test in
+          (inr (goes-on i (rw kind at due) (broken-line s i ZZ Iff·rfl .0 (rw test at f)) (rw kind at (p .place))), p .alone, p .no-count)
 
       back : (DueAt WrongMark s a ⊎ GoesOnAt s a) × (b ≡ 0) × (n ≡ 0) → FirstFault s (result 2 a b n)
       back (inl (k, i, due, f, place), alone, no-count) = record { kind = k; index = i; due = due; fault = wrong-mark f (rw (place, alone, no-count)) }
       back (inr (due, mark, more, place), alone, no-count) =
-          record { kind = ZZ; index = 0; due = due; fault = broken-line (mark, omega arith, λ line. omega (arith, line .1)) (rw (place, alone, no-count)) }
+          record { kind = ZZ; index = 0; due = due; fault = breaks (fields ZZ) refl (broken-line s 0 ZZ Iff·rfl .1 (mark, omega arith, λ line. omega (arith, line .1))) (rw (place, alone, no-count)) }
 
-  field-law : (k : Kind) → 3 ≤ fieldNumber k
-      → FirstFault s (result (fieldNumber k) a b n) ↔ (((i : ℕ) × Due s k i × BrokenLine s k i × (a ≡ recordAt s k i)) × (b ≡ 0) × (n ≡ 0))
-  field-law k least = ((λ f. there (f .kind) (f .index) (f .due) (f .fault)), back)
+  test-law : (t : Test) → 3 ≤ testNumber t
+      → FirstFault s (result (testNumber t) a b n) ↔ (((i : ℕ) × Due s (kindOf t) i × Broken s t i × (a ≡ recordAt s (kindOf t) i)) × (b ≡ 0) × (n ≡ 0))
+  test-law t least = ((λ f. there (f .kind) (f .index) (f .due) (f .fault)), back)
     where
-      there : (j : Kind) (i : ℕ) → Due s j i → Fault s j i (result (fieldNumber k) a b n)
-          → ((h : ℕ) × Due s k h × BrokenLine s k h × (a ≡ recordAt s k h)) × (b ≡ 0) × (n ≡ 0)
-      there j i due (too-short f e) = let p = parts _ _ _ _ _ _ e in absurd (omega arith)
-      there j i due (wrong-mark f e) = let p = parts _ _ _ _ _ _ e in absurd (omega arith)
-      there j i due (broken-line f e) =
+      there : (k : Kind) (i : ℕ) → Due s k i → Fault s k i (result (testNumber t) a b n)
+          → ((h : ℕ) × Due s (kindOf t) h × Broken s t h × (a ≡ recordAt s (kindOf t) h)) × (b ≡ 0) × (n ≡ 0)
+      there k i due (too-short f e) = let p = parts _ _ _ _ _ _ e in absurd (omega arith)
+      there k i due (wrong-mark f e) = let p = parts _ _ _ _ _ _ e in absurd (omega arith)
+      there k i due (breaks u same f e) =
           let p = parts _ _ _ _ _ _ e in
-          let same : j ≡ k = same-number j k (sym (p .number)) in
-          ((i, rw same at due, rw same at f, rw same at (p .place) ∙ field-place s k i least), p .alone, p .no-count)
+          let test : u ≡ t = same-test u t (sym (p .number)) in
+          let kind : k ≡ kindOf t = sym same ∙ ap kindOf test in
+          ((i, rw kind at due, rw test at f, rw kind at (p .place) ∙ test-place s t i least), p .alone, p .no-count)
 
-      back : ((i : ℕ) × Due s k i × BrokenLine s k i × (a ≡ recordAt s k i)) × (b ≡ 0) × (n ≡ 0) → FirstFault s (result (fieldNumber k) a b n)
+      back : ((i : ℕ) × Due s (kindOf t) i × Broken s t i × (a ≡ recordAt s (kindOf t) i)) × (b ≡ 0) × (n ≡ 0) → FirstFault s (result (testNumber t) a b n)
       back ((i, due, f, place), alone, no-count) =
-          record { kind = k; index = i; due = due; fault = broken-line f (rw (place, alone, no-count, field-place s k i least)) }
+          record { kind = kindOf t; index = i; due = due; fault = breaks t refl f (rw (place, alone, no-count, test-place s t i least)) }
 
 -- whatever answers as reading does where a number is one of reading's refusals
 module _ (answer : List ℕ → Report) (alike : (s : List ℕ) (r : Report) → (r .number ≡ 0 → ⊥) → ReadingNumber (r .number) → (answer s ≡ r) ↔ (readingOf s ≡ r)) where
   by-due : (s : List ℕ) (m a b n : ℕ) → 1 ≤ m → ReadingNumber m → (answer s ≡ result m a b n) ↔ FirstFault s (result m a b n)
   by-due s m a b n least number = let bad : m ≡ 0 → ⊥ = omega arith in Iff·trans (alike s _ bad number) (reading-law s _ bad)
 
-  refused-field : (k : Kind) → 3 ≤ fieldNumber k → RefusedField k answer
-  refused-field k least s a b n = Iff·trans (by-due s (fieldNumber k) a b n (omega arith) (placed k .number)) (field-law s a b n k least)
+  -- a test of fields, and what it says of a record where it is the first that fails
+  by-test : (t : Test) → 3 ≤ testNumber t → (X : List ℕ → ℕ → Type 0) → ((s : List ℕ) (i : ℕ) → Broken s t i ↔ X s i)
+      → (s : List ℕ) (a b n : ℕ)
+      → (answer s ≡ result (testNumber t) a b n) ↔ (((i : ℕ) × Due s (kindOf t) i × X s i × (a ≡ recordAt s (kindOf t) i)) × (b ≡ 0) × (n ≡ 0))
+  by-test t least X says s a b n =
+      Iff·trans (Iff·trans (by-due s (testNumber t) a b n (omega arith) (test-number t)) (test-law s a b n t least)) (
+        (λ ((i, due, f, place), alone, no-count). ((i, due, says s i .0 f, place), alone, no-count)),
+        (λ ((i, due, f, place), alone, no-count). ((i, due, says s i .1 f, place), alone, no-count)),
+      )
+
+  refused-field : (k : Kind) → 3 ≤ fieldNumber k → ((s : List ℕ) (i : ℕ) → Asks s (fields k) i ↔ Line s k i) → RefusedField k answer
+  refused-field k least same = by-test (fields k) least (λ s i. BrokenLine s k i) (λ s i. broken-line s i k (same s i))
 
   pub refusals : Refusals answer
   refusals =
       record {
         short = λ s a b n. Iff·trans (by-due s 1 a b n (omega arith) (up-to-nine (omega arith))) (short-law s a b n);
         mark = λ s a b n. Iff·trans (by-due s 2 a b n (omega arith) (up-to-nine (omega arith))) (mark-law s a b n);
-        header = refused-field HD (omega arith);
-        link = refused-field LK (omega arith);
-        turn = refused-field TN (omega arith);
-        signal = refused-field SG (omega arith);
-        grid = refused-field GR (omega arith);
-        arrival = refused-field AR (omega arith);
-        entry = refused-field EN (omega arith);
+        header = refused-field HD (omega arith) (λ s i. Iff·rfl);
+        link = refused-field LK (omega arith) (λ s i. Iff·rfl);
+        turn = refused-field TN (omega arith) (λ s i. Iff·rfl);
+        signal = refused-field SG (omega arith) (λ s i. Iff·rfl);
+        grid = refused-field GR (omega arith) (λ s i. Iff·rfl);
+        arrival = refused-field AR (omega arith) (λ s i. Iff·rfl);
+        name = by-test (fields EN) (omega arith) MissingName missing-name;
+        order = by-test order (omega arith) WrongOrder wrong-order;
       }
 
 pub reading-refuses : ReadingRefuses

@@ -1,6 +1,6 @@
 -- Laws of the combinators by which tests follow one another (specs/Checks.antt). Assumes nothing.
 use Prim.Native.Nat.{ℕ, zero, suc, _+_, _-_, _≤_, _<_}
-use mathlib.Core.Bool.{Bool, true, false, not, _&&_, false≢true}
+use mathlib.Core.Bool.{Bool, true, false, not, _&&_, cond, false≢true}
 use mathlib.Core.Path.{_≡_, refl, sym, ap, _∙_}
 use mathlib.Core.Logic.{⊎-elim, _⊎_, inl, inr}
 use native.Mathlib.Nat.{eq-or-lt-of-le}
@@ -54,6 +54,15 @@ pub need-or : (b : Bool) (n o : ℕ) (g : Report) → eqb n 0 ≡ false → orEl
 unfolding need orElse
 need-or true n o g z = refl
 need-or false n o g z = rw z
+
+-- two refusals of a chain, one after the other
+pub need-chain : (f : Report) (b : Bool) (n o : ℕ) (g : Report) → eqb n 0 ≡ false → orElse (orElse f (need b (refusal n o) fine)) g ≡ orElse f (need b (refusal n o) g)
+unfolding orElse
+need-chain f b n o g z = go (eqb (f .number) 0) refl
+  where
+    go : (c : Bool) → eqb (f .number) 0 ≡ c → orElse (cond c (need b (refusal n o) fine) f) g ≡ cond c (need b (refusal n o) g) f
+    go true e = need-or b n o g z
+    go false e = rw e
 
 by-number : (b : Bool) (f g : Report) → eqb (f .number) 0 ≡ b → orElse f g .number ≡ 0 → (f .number ≡ 0) × (g .number ≡ 0)
 unfolding orElse

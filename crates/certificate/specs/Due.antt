@@ -4,7 +4,7 @@ use mathlib.Core.List.{List}
 use mathlib.Core.Logic.{_⊎_}
 use mathlib.Core.Path.{_≡_}
 use lib.ListN.{length}
-use Rattle.certificate.specs.Layout.{maxShare, maxIntervals, maxCells, headerSize, linkSize, turnSize, signalSize, gridSize, arrivalSize, entrySize, endSize, linksOf, turnsOf, signalsOf, boxesOf, entriesOf, linkAt, turnAt, fromOf, toOf, signalAt, gridAt, intervalsOf, productOf, arrivalAt, entryAt, cellOf, modeOf, endAt}
+use Rattle.certificate.specs.Layout.{maxShare, maxIntervals, maxCells, headerSize, linkSize, turnSize, signalSize, gridSize, arrivalSize, entrySize, endSize, linksOf, turnsOf, signalsOf, modesOf, boxesOf, entriesOf, linkAt, turnAt, fromOf, toOf, signalAt, gridAt, intervalsOf, productOf, cellsOf, arrivalAt, entryAt, cellOf, modeOf, signalOf, nextModeOf, endAt}
 use Rattle.certificate.specs.Records.{shareTotal}
 use Rattle.certificate.specs.Facts.{Mark, HeaderFacts, LinkFacts, PairBelow, TurnFacts, SignalFacts, GridFacts, BoxFacts, EntryFacts}
 
@@ -23,7 +23,7 @@ orderOf AR = 5
 orderOf EN = 6
 orderOf ZZ = 7
 
--- the refusal of a field that breaks its line (ZZ has no field: 2 is a byte after it)
+-- the refusal of a field that breaks its line (EN: a name; its order has 22. ZZ has no field: 2 is a byte after it)
 abbrev pub fieldNumber : Kind → ℕ
 fieldNumber HD = 3
 fieldNumber LK = 4
@@ -115,5 +115,21 @@ TooShort s k i = (Present s k i → ⊥) ⊎ (Marked s k i × (Whole s k i → �
 abbrev pub WrongMark : List ℕ → Kind → ℕ → Type 0
 WrongMark s k i = Present s k i × (Marked s k i → ⊥)
 
+-- a kind whose line has one refusal
 abbrev pub BrokenLine : List ℕ → Kind → ℕ → Type 0
 BrokenLine s k i = Marked s k i × Whole s k i × (Line s k i → ⊥)
+
+-- An entry's line has two. Its names come first: it names a missing cell, mode, signal or next mode
+pub data Missing (s : List ℕ) (e : ℕ) : Type 0 where
+  cell : cellsOf s ≤ cellOf s e → Missing s e
+  mode : modesOf s ≤ modeOf s e → Missing s e
+  signal : signalsOf s ≤ signalOf s e → Missing s e
+  next-mode : modesOf s ≤ nextModeOf s e → Missing s e
+
+abbrev pub MissingName : List ℕ → ℕ → Type 0
+MissingName s e = Marked s EN e × Whole s EN e × Missing s e
+
+-- then its order: its names exist, and its pair (cell, mode) is not above that of entry h, the one before it
+abbrev pub WrongOrder : List ℕ → ℕ → Type 0
+WrongOrder s e =
+    Whole s EN e × EntryFacts s e × ((h : ℕ) × (h + 1 ≡ e) × (PairBelow (cellOf s h) (modeOf s h) (cellOf s e) (modeOf s e) → ⊥))

@@ -5,12 +5,12 @@ use mathlib.Core.Path.{_≡_}
 use mathlib.Core.Logic.{_↔_, _⊎_}
 use lib.ListN.{length, take}
 use Rattle.certificate.specs.declared.Report.{Report}
-use Rattle.certificate.specs.Layout.{maxLength, endSize, cellsOf, maxCells, endAt}
+use Rattle.certificate.specs.Layout.{maxLength, endSize, cellsOf, maxCells, entryAt, endAt}
 use Rattle.certificate.specs.Reading.{readingOf}
 use Rattle.certificate.specs.Checks.{result, fine}
 use Rattle.certificate.specs.Facts.{Mark, Readable}
 use Rattle.certificate.specs.Fields.{Stand, certificateFields}
-use Rattle.certificate.specs.Due.{Kind, HD, LK, TN, SG, GR, AR, EN, ZZ, fieldNumber, recordAt, Due, TooShort, WrongMark, BrokenLine}
+use Rattle.certificate.specs.Due.{Kind, HD, LK, TN, SG, GR, AR, EN, ZZ, fieldNumber, recordAt, Due, TooShort, WrongMark, BrokenLine, MissingName, WrongOrder}
 
 -- reading finds nothing to refuse exactly if every line of the layout holds
 abbrev pub ReadingIsPlain : Type 0
@@ -36,9 +36,10 @@ ReadableFits = (s : List ℕ) → Readable s → length s ≤ maxLength
 abbrev pub LongInput : Type 0
 LongInput = (s : List ℕ) → readingOf s ≡ readingOf (take (maxLength + 1) s)
 
--- the numbers of reading: 0 for success, and refusals 1 to 9
+-- the numbers of reading: 0 for success, and refusals 1 to 9 and 22
 pub data ReadingNumber (n : ℕ) : Type 0 where
   up-to-nine : n ≤ 9 → ReadingNumber n
+  of-order : n ≡ 22 → ReadingNumber n
 
 -- reading answers with no other number
 abbrev pub ReadingNumbers : Type 0
@@ -67,11 +68,23 @@ GoesOnAt s a = Due s ZZ 0 × Mark s (endAt s) 90 90 × (endAt s + endSize < leng
 abbrev pub RefusedMark : (List ℕ → Report) → Type 0
 RefusedMark answer = (s : List ℕ) (a b n : ℕ) → (answer s ≡ result 2 a b n) ↔ ((DueAt WrongMark s a ⊎ GoesOnAt s a) × (b ≡ 0) × (n ≡ 0))
 
--- 3 to 9: a field of a record of kind k breaks its line
+-- 3 to 8: a field of a record of kind k breaks its line
 abbrev pub RefusedField : Kind → (List ℕ → Report) → Type 0
 RefusedField k answer =
     (s : List ℕ) (a b n : ℕ)
     → (answer s ≡ result (fieldNumber k) a b n) ↔ (((i : ℕ) × Due s k i × BrokenLine s k i × (a ≡ recordAt s k i)) × (b ≡ 0) × (n ≡ 0))
+
+-- the entry that is due has this fault, and starts at a
+abbrev pub EntryDueAt : (List ℕ → ℕ → Type 0) → List ℕ → ℕ → Type 0
+EntryDueAt Fault s a = (e : ℕ) × Due s EN e × Fault s e × (a ≡ entryAt s e)
+
+-- 9: it names a missing cell, mode, signal or next mode
+abbrev pub RefusedName : (List ℕ → Report) → Type 0
+RefusedName answer = (s : List ℕ) (a b n : ℕ) → (answer s ≡ result 9 a b n) ↔ (EntryDueAt MissingName s a × (b ≡ 0) × (n ≡ 0))
+
+-- 22: its names exist, and its pair (cell, mode) is not above that of the entry before it
+abbrev pub RefusedOrder : (List ℕ → Report) → Type 0
+RefusedOrder answer = (s : List ℕ) (a b n : ℕ) → (answer s ≡ result 22 a b n) ↔ (EntryDueAt WrongOrder s a × (b ≡ 0) × (n ≡ 0))
 
 -- all of them
 pub record Refusals (answer : List ℕ → Report) : Type 0 where
@@ -83,7 +96,8 @@ pub record Refusals (answer : List ℕ → Report) : Type 0 where
   pub signal : RefusedField SG answer
   pub grid : RefusedField GR answer
   pub arrival : RefusedField AR answer
-  pub entry : RefusedField EN answer
+  pub name : RefusedName answer
+  pub order : RefusedOrder answer
 
 abbrev pub ReadingRefuses : Type 0
 ReadingRefuses = Refusals readingOf

@@ -24,7 +24,7 @@ arrivalsFault s = firstBad (boxesOf s) (arrivalFault s)
 unfoldable pub entriesFault : List ℕ → Report
 entriesFault s = firstBad (entriesOf s) (entryFault s)
 
--- refusals 1 to 9, or fine for a readable certificate
+-- refusals 1 to 9 and 22, or fine for a readable certificate
 unfoldable pub readingOf : List ℕ → Report
 readingOf s =
     orElse (headerFault s)

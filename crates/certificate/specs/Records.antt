@@ -1,4 +1,4 @@
--- The tests of each record, and their refusals 1 to 9.
+-- The tests of each record, and their refusals 1 to 9 and 22.
 use Prim.Native.Nat.{ℕ, zero, suc, _+_, _*_, _-_, _^_}
 use mathlib.Core.List.{List}
 use mathlib.Core.Bool.{Bool, true, not, _&&_, _||_}
@@ -113,22 +113,24 @@ arrivalFault s b =
     orElse (opened s (arrivalAt s b) (marked s (arrivalAt s b) 65 82) (arrivalSize (linksOf s)))
     (firstBad (linksOf s) (rangeFault s b))
 
+-- the cell, mode, signal and next mode that entry e names exist
+unfoldable pub namesExist : List ℕ → ℕ → Bool
+namesExist s e =
+    ltb (cellOf s e) (cellsOf s) also ltb (modeOf s e) (modesOf s)
+    also ltb (signalOf s e) (signalsOf s) also ltb (nextModeOf s e) (modesOf s)
+
 -- the pair (cell, mode) of entry e is above that of the entry before it
 unfoldable pub entryAscends : List ℕ → ℕ → Bool
 entryAscends s zero = true
 entryAscends s (suc e) = pairBelow (cellOf s e) (modeOf s e) (cellOf s (suc e)) (modeOf s (suc e))
 
--- EN: cell, mode, signal and next mode exist; pairs ascend; the rank is free. Mark "EN".
-unfoldable pub entryOk : List ℕ → ℕ → Bool
-entryOk s e =
-    ltb (cellOf s e) (cellsOf s) also ltb (modeOf s e) (modesOf s)
-    also ltb (signalOf s e) (signalsOf s) also ltb (nextModeOf s e) (modesOf s)
-    also entryAscends s e
-
+-- EN: names exist (9), then pairs ascend (22), both with the record's offset; the rank is free. Mark "EN".
 unfoldable pub entryFault : List ℕ → ℕ → Report
 entryFault s e =
     orElse (opened s (entryAt s e) (marked s (entryAt s e) 69 78) entrySize)
-    (need (entryOk s e) (refusal 9 (entryAt s e)) fine)
+    (need (namesExist s e) (refusal 9 (entryAt s e))
+    (need (entryAscends s e) (refusal 22 (entryAt s e))
+    fine))
 
 -- ZZ: nothing follows; a byte after it is refused at its own offset. Mark "ZZ".
 unfoldable pub endFault : List ℕ → Report

@@ -10,9 +10,9 @@ use lib.ListN.{length}
 use Rattle.certificate.specs.declared.Report.{Report}
 use Rattle.certificate.specs.Checks.{refusal, fine, need, orElse, marked, opened}
 use Rattle.certificate.specs.Layout.{entrySize, entryAt, cellOf, modeOf}
-use Rattle.certificate.specs.Records.{pairBelow, entryAscends, entryOk, entryFault}
+use Rattle.certificate.specs.Records.{pairBelow, namesExist, entryAscends, entryFault}
 use Rattle.entry_records.specs.Keys.{IsKey, KeyBefore}
-use Rattle.certificate.proofs.Tests.{and-both, need-pass, or-next}
+use Rattle.certificate.proofs.Tests.{and-both, need-pass, need-chain, or-next}
 use Rattle.certificate.proofs.Says.{opened-says, opened-fine}
 use Rattle.certificate.proofs.Records.{entry-says}
 use Rattle.octets.proofs.Cases.{first}
@@ -67,19 +67,24 @@ module _ (s : List ℕ) where
     pub entry-whole : f .number ≡ 0 → o + entrySize ≤ length s
     entry-whole z = opened-says s o mark entrySize refl .0 (rw (← opening) z) .0
 
-    pub entry-result : {ok : Bool} {r : Report} → ok ≡ entryOk s e → r ≡ orElse f (need ok (refusal 9 o) fine) → r ≡ entryFault s e
+    -- g is what the test of its names answers, after which its order is tested
+    pub entry-result : {named up : Bool} {g r : Report} → named ≡ namesExist s e → up ≡ entryAscends s e → g ≡ orElse f (need named (refusal 9 o) fine)
+        → r ≡ orElse g (need up (refusal 22 o) fine) → r ≡ entryFault s e
     unfolding entryFault
-    entry-result p q = q ∙ rw (opening, bears, p, here)
+    entry-result {named} {up} p u q w = w ∙ rw (q, need-chain f named 9 o (need up (refusal 22 o) fine) refl, opening, bears, p, u, here)
 
   -- an entry that is there whole, with its mark, and passes its tests
-  pub entry-fine : (e : ℕ) {o : ℕ} {mark ok : Bool} → o ≡ entryAt s e → o + entrySize ≤ length s → mark ≡ marked s o 69 78 → ok ≡ entryOk s e → (mark && ok) ≡ true → fine ≡ entryFault s e
+  pub entry-fine : (e : ℕ) {o : ℕ} {mark named up : Bool} → o ≡ entryAt s e → o + entrySize ≤ length s → mark ≡ marked s o 69 78
+      → named ≡ namesExist s e → up ≡ entryAscends s e → ((mark && named) && up) ≡ true → fine ≡ entryFault s e
   unfolding entryFault
-  entry-fine e {o} {mark} {ok} here whole p q holds =
-      let b = and-both mark ok holds in
+  entry-fine e {o} {mark} {named} {up} here whole p q u holds =
+      let a = and-both (mark && named) up holds in
+      let b = and-both mark named (a .0) in
       let m : marked s o 69 78 ≡ true = sym p ∙ b .0 in
-      let k : entryOk s e ≡ true = sym q ∙ b .1 in
+      let k : namesExist s e ≡ true = sym q ∙ b .1 in
+      let v : entryAscends s e ≡ true = sym u ∙ a .1 in
       let opening : opened s o (marked s o 69 78) entrySize ≡ fine = opened-fine s o _ entrySize (omega arith) whole m in
-      sym (rw (← here, opening, need-pass (entryOk s e) (refusal 9 o) fine k, or-next fine fine refl))
+      sym (rw (← here, opening, need-pass (namesExist s e) (refusal 9 o) _ k, need-pass (entryAscends s e) (refusal 22 o) fine v, or-next fine fine refl))
 
   -- an entry that passes is there whole
   pub entry-within : (e : ℕ) {f : Report} → f ≡ entryFault s e → f .number ≡ 0 → entryAt s e + entrySize ≤ length s

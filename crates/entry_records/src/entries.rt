@@ -5,7 +5,7 @@ ghost use lib.ListN.{length};
 ghost use Rattle.certificate.specs.Octets.{byteAt, u16At};
 ghost use Rattle.certificate.specs.Checks.{fine, firstFrom, firstBad};
 ghost use Rattle.certificate.specs.Layout.{maxCells, entriesStart, entryAt, entrySize, cellOf, modeOf, signalOf, nextModeOf, rankOf};
-ghost use Rattle.certificate.specs.Records.{entryOk, entryFault};
+ghost use Rattle.certificate.specs.Records.{namesExist, entryFault};
 ghost use Rattle.entry_records.specs.Keys.{IsKey, KeyBefore};
 ghost use Rattle.entry_records.specs.Keys.{CountsAre};
 ghost use Rattle.octets.specs.Bounds.{entryBound, startBound};
@@ -85,19 +85,19 @@ fn key_at(s: &[u8], o: usize, e: usize) -> usize
     octets::u16_within(s, o + 2) * 256 + octets::byte_within(s, o + 4)
 }
 
-// The tests of the entry at o, which is there whole and has that key; `least` is above the key of the entry before it.
-fn entry_ok(s: &[u8], o: usize, counts: Counts, e: usize, key: usize, least: usize) -> bool
-    requires { ⌜ (o ≤ entryBound) × (o ≡ entryAt (now s) e) × (o + entrySize ≤ length (now s)) × (counts .cells ≤ maxCells) × CountsAre (now s) counts × IsKey (now s) e key × KeyBefore (now s) e least ⌝ }
-    ensures { λ r. ⌜ r ≡ entryOk (now (s .entry)) e ⌝ }
+// The cell, mode, signal and next mode that the entry at o names exist. It is there whole and has that key.
+fn names_exist(s: &[u8], o: usize, counts: Counts, e: usize, key: usize) -> bool
+    requires { ⌜ (o ≤ entryBound) × (o ≡ entryAt (now s) e) × (o + entrySize ≤ length (now s)) × (counts .cells ≤ maxCells) × CountsAre (now s) counts × IsKey (now s) e key ⌝ }
+    ensures { λ r. ⌜ r ≡ namesExist (now (s .entry)) e ⌝ }
 {
     (key < counts.cells * 256)
         & (key % 256 < counts.modes)
         & (octets::byte_within(s, o + 5) < counts.signals)
         & (octets::byte_within(s, o + 6) < counts.modes)
-        & (least <= key)
 }
 
 // A quick yes for the record at o: it is there whole, its mark is right, and its tests pass. One above its key then, else 0.
+// `least` is one above the key of the entry before it, and 0 for the first entry.
 fn quick(s: &[u8], o: usize, counts: Counts, e: usize, least: usize) -> usize
     requires { ⌜ (o ≤ entryBound) × (o ≡ entryAt (now s) e) × (counts .cells ≤ maxCells) × CountsAre (now s) counts × KeyBefore (now s) e least ⌝ }
     ensures { λ r. ⌜ ((r ≡ 0 → ⊥) → (fine ≡ entryFault (now (s .entry)) e) × KeyBefore (now (s .entry)) (e + 1) r) ⌝ }
@@ -106,7 +106,7 @@ fn quick(s: &[u8], o: usize, counts: Counts, e: usize, least: usize) -> usize
         return 0;
     }
     let key = key_at(s, o, e);
-    if octets::marked_within(s, o, 69, 78) & entry_ok(s, o, counts, e, key, least) {
+    if octets::marked_within(s, o, 69, 78) & names_exist(s, o, counts, e, key) & (least <= key) {
         return key + 1;
     }
     0
@@ -122,7 +122,9 @@ fn check_entry(s: &[u8], o: usize, counts: Counts, e: usize, least: usize) -> Re
         return opening;
     }
     let key = key_at(s, o, e);
-    octets::record_result(opening, entry_ok(s, o, counts, e, key, least), 9, o)
+    let exist = names_exist(s, o, counts, e, key);
+    let named = octets::record_result(opening, exist, 9, o);
+    octets::record_result(named, least <= key, 22, o)
 }
 
 // The records from entry `from` on.

@@ -1,2 +1,2 @@
-// Entries: the fields of their records and their tests (refusal 9).
+// Entries: the fields of their records and their tests (refusals 9 and 22).
 pub mod entries;

@@ -169,7 +169,7 @@ fn read_back(s: &[u8], starts: Starts) -> Reading
     Reading { report: g, layout }
 }
 
-// Reads any bytes: refusals 1 to 9, or success and the layout.
+// Reads any bytes: refusals 1 to 9 and 22, or success and the layout.
 pub fn read(s: &[u8]) -> Reading
     ensures { λ r. ⌜ ReadAs (now (s .entry)) (readingOf (now (s .entry))) r ⌝ }
 {

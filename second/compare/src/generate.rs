@@ -3,6 +3,7 @@
 pub mod bytes;
 mod calls;
 mod damage;
+mod entries;
 mod grid;
 mod network;
 mod policy;
@@ -11,6 +12,7 @@ mod solve;
 
 pub use calls::{any_query, any_state, any_write, Query};
 pub use damage::damaged;
+pub use entries::{spoilt, Name, Order, Way};
 pub use policy::find_policy;
 pub use polls::any_poll;
 

@@ -6,8 +6,8 @@ use std::fmt;
 #[derive(Clone, Debug, Default)]
 pub struct Numbered([u64; NUMBERS]);
 
-/// Result numbers: 0 to 21.
-const NUMBERS: usize = 22;
+/// Result numbers: 0 to 22.
+const NUMBERS: usize = 23;
 
 impl Numbered {
     pub fn add(&mut self, number: u32) {
@@ -35,6 +35,9 @@ impl fmt::Display for Numbered {
     }
 }
 
+/// The refusals of a load, in the order of their tests.
+pub const LOAD_REFUSALS: [usize; 16] = [1, 2, 3, 4, 5, 6, 7, 8, 9, 22, 10, 11, 12, 13, 14, 15];
+
 /// All calls of a comparison.
 #[derive(Clone, Debug, Default)]
 pub struct Tally {
@@ -49,7 +52,7 @@ impl fmt::Display for Tally {
     fn fmt(&self, out: &mut fmt::Formatter<'_>) -> fmt::Result {
         let share = 100.0 * self.loads.of(0) as f64 / self.loads.all().max(1) as f64;
         writeln!(out, "loads: {} accepted ({share:.1} %)", self.loads.of(0))?;
-        for number in 1..=15 {
+        for number in LOAD_REFUSALS {
             writeln!(out, "  refused {number}: {}", self.loads.of(number))?;
         }
         writeln!(out, "queries: {}", self.queries)?;

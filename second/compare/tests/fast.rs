@@ -1,12 +1,14 @@
 //! The plain checkers, `fast` and `peer`, give what the second checker gives.
 
-use compare::generate::{any_poll, any_state, bytes::bytes_of, certificate, damaged, Size};
+use compare::generate::{
+    any_poll, any_state, bytes::bytes_of, certificate, damaged, spoilt, Size, Way,
+};
 use compare::numbers::Numbers;
 use compare::sides::state_bytes;
 use compare::{fast, peer, samples};
 use second::conditions::read_sound;
 use second::text::encode;
-use second::{listing, Report};
+use second::{listing, Report, State};
 
 fn screened(bytes: &[u8]) -> Report {
     match read_sound(bytes) {
@@ -35,7 +37,7 @@ fn lists(listing: impl Fn(&[u8], &mut [u8]) -> Option<usize>, bytes: &[u8], text
 #[test]
 fn on_generated_certificates() {
     let (mut accepted, mut ranked) = (0, 0);
-    let mut refused = [0; 16];
+    let mut refused = [0; 23];
     for part in 0..1_500 {
         let mut numbers = Numbers::of(3, part);
         let drawn = certificate(&mut numbers, Size::Small);
@@ -49,7 +51,28 @@ fn on_generated_certificates() {
     }
     assert!(accepted > 1_400, "{accepted}");
     assert!(ranked > 700, "{ranked}");
-    assert!(refused[12..].iter().all(|&of| of > 20), "{refused:?}");
+    let often = [9, 12, 13, 14, 15, 22];
+    assert!(often.iter().all(|&at| refused[at] > 20), "{refused:?}");
+}
+
+/// Missing names and wrong order: the due refusal, and a state made by hand holds no certificate.
+#[test]
+fn on_spoilt_entries() {
+    for part in 0..200 {
+        let mut numbers = Numbers::of(9, part);
+        let drawn = certificate(&mut numbers, Size::Small);
+        for way in Way::ALL {
+            let (bytes, due) = spoilt(&drawn, way, &mut numbers);
+            assert_eq!(agrees(&bytes), due, "{way:?}");
+            let mut own = State::by_hand(&bytes, bytes.len(), 0);
+            let mut state = state_bytes(&own);
+            let poll = any_poll(&drawn, 0, &mut numbers);
+            let answer = peer::poll(&mut state, &poll);
+            assert_eq!(answer.report, Report::refusal(18), "{way:?}");
+            assert_eq!(answer, own.poll(&poll), "{way:?}");
+            assert_eq!(state, state_bytes(&own));
+        }
+    }
 }
 
 #[test]

@@ -1,12 +1,14 @@
 //! A fixed part of every comparison.
 
 use compare::differential::{differential, roadside, shown, slices, Plan};
+use compare::generate::{any_poll, any_query, certificate, spoilt, Size, Way};
 use compare::numbers::Numbers;
 use compare::readings::{readings, Extent};
 use compare::samples;
-use compare::sides::Sides;
+use compare::sides::{screen, Agreed, Sides};
+use compare::tally::LOAD_REFUSALS;
 use second::conditions::read_sound;
-use second::State;
+use second::{Certificate, Report, State};
 
 #[test]
 fn library_and_second_checker_agree() {
@@ -21,8 +23,11 @@ fn library_and_second_checker_agree() {
     assert_eq!(tally.queries.all(), plan.queries);
     assert_eq!(tally.polls.all(), plan.polls);
     assert!(tally.loads.of(0) * 10 > tally.loads.all() * 4, "{tally}");
-    for number in 1..=15 {
+    for number in LOAD_REFUSALS {
         assert!(tally.loads.of(number) > 0, "no {number}\n{tally}");
+    }
+    for number in [9, 22] {
+        assert!(tally.loads.of(number) > 20, "few {number}\n{tally}");
     }
     for number in [0, 16, 18, 19] {
         assert!(tally.queries.of(number) > 100, "few {number}\n{tally}");
@@ -35,6 +40,39 @@ fn library_and_second_checker_agree() {
         assert!(tally.writes.of(number) > 10, "few {number}\n{tally}");
     }
     assert!(tally.listings.of(0) > 100, "{tally}");
+}
+
+/// Missing names and wrong order in every way: 9 or 22 as is due, and 18 of a state made by hand.
+#[test]
+fn spoilt_entries_agree() {
+    for part in 0..40 {
+        let mut numbers = Numbers::of(10, part);
+        let drawn = certificate(&mut numbers, Size::Small);
+        for way in Way::ALL {
+            let (bytes, due) = spoilt(&drawn, way, &mut numbers);
+            let told = refused_alike(&bytes, due, &drawn, &mut numbers);
+            told.unwrap_or_else(|difference| panic!("{way:?} {difference:?}"));
+        }
+    }
+}
+
+/// Both sides refuse the bytes, and a state made by hand that holds them refuses every call.
+fn refused_alike(
+    bytes: &[u8],
+    due: Report,
+    certificate: &Certificate,
+    numbers: &mut Numbers,
+) -> Agreed<()> {
+    assert_eq!(screen(bytes)?, due);
+    let mut sides = Sides::of(State::by_hand(bytes, bytes.len(), 0));
+    assert_eq!(sides.load(bytes)?, due);
+    let no_certificate = Report::refusal(18);
+    let query = sides.query(&any_query(certificate, numbers))?;
+    assert_eq!(query, no_certificate);
+    let poll = sides.poll(&any_poll(certificate, 0, numbers))?;
+    assert_eq!(poll, no_certificate);
+    assert_eq!(sides.write(bytes.len(), 0)?, no_certificate);
+    Ok(())
 }
 
 #[test]

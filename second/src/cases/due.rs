@@ -5,6 +5,10 @@ use crate::report::Report;
 use crate::text::{Fault, Words};
 use std::fmt;
 
+/// The greatest number of a due result: documents 01 and 02 have refusals 1 to 28 in all. Those that no call gives yet
+/// are taken too, so that their cases can be stored before the call is built.
+const MOST_NUMBER: u64 = 28;
+
 /// What a call must answer.
 #[derive(Clone, Debug, PartialEq, Eq)]
 pub enum Due {
@@ -153,7 +157,7 @@ fn read_write(words: &mut Words) -> Result<Due, String> {
 
 fn read_report(words: &mut Words) -> Result<Report, String> {
     Ok(Report {
-        number: words.number("the result's number", 21)? as u32,
+        number: words.number("the result's number", MOST_NUMBER)? as u32,
         a: words.number("place A", u64::MAX)?,
         b: words.number("place B", u64::MAX)?,
         count: words.number("the count", u64::MAX)?,

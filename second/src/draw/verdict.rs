@@ -32,18 +32,19 @@ fn reason(number: u32) -> &'static str {
         6 => "a signal (SG) has a green link that is not there",
         7 => "the cuts of a link (GR) are out of bounds",
         8 => "an arrival box (AR) is out of bounds",
-        9 => "a field of an entry (EN) is out of bounds",
+        9 => "an entry (EN) names a missing cell, mode, signal or next mode",
         10 => "pull sum too high",
         11 => "flow condition fails",
         12 => "cell not safe",
         13 => "rank 0 without goal, or goal without rank 0",
         14 => "successor not listed",
         15 => "successor's rank not lower",
+        22 => "an entry (EN) is not above the one before by cell and mode",
         _ => "refused",
     }
 }
 
-/// What the places of a refusal of 1 to 9 mean.
+/// What the places of a refusal of 1 to 9 or 22 mean.
 pub fn reading_details(report: Report) -> Vec<String> {
     let what = match report.number {
         1 => "the record that is due starts",

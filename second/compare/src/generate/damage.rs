@@ -1,6 +1,7 @@
 //! Damaged copies of certificates.
 
 use super::bytes::bytes_of;
+use super::entries::{spoil, Way};
 use crate::numbers::Numbers;
 use second::certificate::{Arrival, Certificate};
 
@@ -15,7 +16,7 @@ pub fn damaged(certificate: &Certificate, numbers: &mut Numbers) -> Vec<u8> {
     }
     let mut copy = certificate.clone();
     for _ in 0..numbers.pick(&[1, 1, 1, 2]) {
-        match numbers.below(16) {
+        match numbers.below(18) {
             0..=4 => change_entry(&mut copy, numbers),
             5..=7 => change_arrivals(&mut copy, numbers),
             8 => change_grid(&mut copy, numbers),
@@ -24,7 +25,10 @@ pub fn damaged(certificate: &Certificate, numbers: &mut Numbers) -> Vec<u8> {
             11..=13 if !copy.turns.is_empty() => change_turn(&mut copy, numbers),
             13 => change_limit(&mut copy, numbers),
             14 => change_rank(&mut copy, numbers),
-            _ => change_signal(&mut copy, numbers),
+            15 => change_signal(&mut copy, numbers),
+            _ => {
+                spoil(&mut copy, numbers.pick(&Way::ALL), numbers);
+            }
         }
     }
     bytes_of(&copy)

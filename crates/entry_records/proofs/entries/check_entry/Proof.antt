@@ -1,5 +1,5 @@
 -- `entry_records::entries::check_entry` meets its contract. Assumes nothing.
-use Rattle.entry_records.proofs.EntryPairs.{entry-unopened, entry-whole, entry-result}
+use Rattle.entry_records.proofs.EntryPairs.{key-ascends, entry-unopened, entry-whole, entry-result}
 use borrow.Author.Needs.{needs}
 use Rattle.entry_records.proofs.entries.check_entry.Statement.{statement}
 use Rattle.entry_records.proofs.entries.check_entry.Tie as tie
@@ -16,14 +16,17 @@ returns c = search entry-unopened
 key-at-requires : tie.Need-key-at-requires
 key-at-requires c κs = (search needs, search needs, search entry-whole)
 
-entry-ok-requires : tie.Need-entry-ok-requires
-entry-ok-requires c κs = (search needs, search needs, search entry-whole, search needs, search needs, search needs, search needs)
+names-exist-requires : tie.Need-names-exist-requires
+names-exist-requires c κs = (search needs, search needs, search entry-whole, search needs, search needs, search needs)
 
 record-result-requires : tie.Need-record-result-requires
 record-result-requires c κs = search needs
 
+record-result-requires-2 : tie.Need-record-result-requires-2
+record-result-requires-2 c κs = search needs
+
 returns-2 : tie.Need-returns-2
-returns-2 c = search entry-result
+returns-2 c = search (entry-result, key-ascends)
 
 pub check-entry-spec : {M : Type 1} → statement M
 check-entry-spec =
@@ -33,6 +36,7 @@ check-entry-spec =
     check-opened-requires
     returns
     key-at-requires
-    entry-ok-requires
+    names-exist-requires
     record-result-requires
+    record-result-requires-2
     returns-2)

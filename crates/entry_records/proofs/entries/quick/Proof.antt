@@ -1,7 +1,7 @@
 -- `entry_records::entries::quick` meets its contract. Assumes nothing.
 use mathlib.Core.Path.{refl}
 use native.Mathlib.Omega.{arith}
-use Rattle.entry_records.proofs.EntryPairs.{entry-fine, key-next}
+use Rattle.entry_records.proofs.EntryPairs.{entry-fine, key-next, key-ascends}
 use borrow.Author.Needs.{needs}
 use Rattle.entry_records.proofs.entries.quick.Statement.{statement}
 use Rattle.entry_records.proofs.entries.quick.Tie as tie
@@ -18,8 +18,8 @@ key-at-requires c κs = search needs
 marked-within-requires : tie.Need-marked-within-requires
 marked-within-requires c κs = search needs
 
-entry-ok-requires : tie.Need-entry-ok-requires
-entry-ok-requires c κs = search needs
+names-exist-requires : tie.Need-names-exist-requires
+names-exist-requires c κs = search needs
 
 add-result : tie.Need-add-result
 add-result c = search needs
@@ -28,7 +28,7 @@ returns-2 : tie.Need-returns-2
 returns-2 c = λ some.
     let start = c .before .before .before .before .before .before in
     let key = c .before .before .before .key-at .ensures in
-    (entry-fine _ _ (start .pre .1) (omega arith) (c .before .before .marked-within .ensures) (c .before .entry-ok .ensures) (c .if2 .taken), key-next _ _ key)
+    (entry-fine _ _ (start .pre .1) (omega arith) (c .before .before .marked-within .ensures) (c .before .names-exist .ensures) (key-ascends _ _ key (start .pre .4)) (c .if2 .taken), key-next _ _ key)
 
 returns-3 : tie.Need-returns-3
 returns-3 c = λ some. absurd (some refl)
@@ -41,7 +41,7 @@ quick-spec =
     returns
     key-at-requires
     marked-within-requires
-    entry-ok-requires
+    names-exist-requires
     add-result
     returns-2
     returns-3)

@@ -1,10 +1,10 @@
--- `entry_records::entries::entry_ok` meets its contract. Assumes nothing.
+-- `entry_records::entries::names_exist` meets its contract. Assumes nothing.
 use Rattle.certificate.specs.Octets.{_also_}
-use Rattle.certificate.specs.Records.{entryOk}
-use Rattle.entry_records.proofs.EntryPairs.{key-ascends, key-mode, key-cell}
+use Rattle.certificate.specs.Records.{namesExist}
+use Rattle.entry_records.proofs.EntryPairs.{key-mode, key-cell}
 use borrow.Author.Needs.{needs}
-use Rattle.entry_records.proofs.entries.entry_ok.Statement.{statement}
-use Rattle.entry_records.proofs.entries.entry_ok.Tie as tie
+use Rattle.entry_records.proofs.entries.names_exist.Statement.{statement}
+use Rattle.entry_records.proofs.entries.names_exist.Tie as tie
 
 mul-result : tie.Need-mul-result
 mul-result c = search needs
@@ -22,14 +22,14 @@ byte-within-requires-2 : tie.Need-byte-within-requires-2
 byte-within-requires-2 c κs = search needs
 
 returns : tie.Need-returns
-unfolding entryOk _also_
+unfolding namesExist _also_
 returns c =
     let start = c .before .before .before .before .before .before .before in
     let key = start .pre .5 in
-    rw (key-ascends _ _ key (start .pre .6), key-mode _ _ key, key-cell _ _ (start .args .counts .cells) key, c .before .before .before .byte-within .ensures .0, c .before .byte-within2 .ensures .0, start .pre .1, start .pre .4 .signals-are, start .pre .4 .modes-are, start .pre .4 .cells-are)
+    rw (key-mode _ _ key, key-cell _ _ (start .args .counts .cells) key, c .before .before .before .byte-within .ensures .0, c .before .byte-within2 .ensures .0, start .pre .1, start .pre .4 .signals-are, start .pre .4 .modes-are, start .pre .4 .cells-are)
 
-pub entry-ok-spec : {M : Type 1} → statement M
-entry-ok-spec =
+pub names-exist-spec : {M : Type 1} → statement M
+names-exist-spec =
     tie.close
     (tie.spec
     mul-result

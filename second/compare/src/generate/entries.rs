@@ -1,0 +1,180 @@
+//! Entries that name what is missing, and entries out of order.
+
+use super::bytes::bytes_of;
+use crate::numbers::Numbers;
+use second::certificate::Certificate;
+use second::Report;
+
+/// Bytes of an EN record, and of ZZ.
+const ENTRY: usize = 9;
+const END: usize = 2;
+
+/// A name in an entry.
+#[derive(Clone, Copy, Debug, PartialEq, Eq)]
+pub enum Name {
+    Cell,
+    Mode,
+    Signal,
+    Next,
+}
+
+/// How the pair of an entry comes not to be above the one before.
+#[derive(Clone, Copy, Debug, PartialEq, Eq)]
+pub enum Order {
+    /// The two entries are swapped.
+    Swapped,
+    /// The pairs are equal.
+    Repeated,
+    /// The cell is the same and the mode lower.
+    LowerMode,
+    /// The cell is lower and the mode higher; equal pairs where there is no such cell or mode.
+    LowerCell,
+}
+
+/// How entries are spoilt.
+#[derive(Clone, Copy, Debug, PartialEq, Eq)]
+pub enum Way {
+    /// A name has its least missing value.
+    Missing(Name),
+    OutOfOrder(Order),
+    /// Out of order, with a missing name in the same entry.
+    Both(Order),
+    /// Out of order, with a missing name in a later entry.
+    Then(Order),
+}
+
+impl Way {
+    pub const ALL: [Way; 16] = [
+        Way::Missing(Name::Cell),
+        Way::Missing(Name::Mode),
+        Way::Missing(Name::Signal),
+        Way::Missing(Name::Next),
+        Way::OutOfOrder(Order::Swapped),
+        Way::OutOfOrder(Order::Repeated),
+        Way::OutOfOrder(Order::LowerMode),
+        Way::OutOfOrder(Order::LowerCell),
+        Way::Both(Order::Swapped),
+        Way::Both(Order::Repeated),
+        Way::Both(Order::LowerMode),
+        Way::Both(Order::LowerCell),
+        Way::Then(Order::Swapped),
+        Way::Then(Order::Repeated),
+        Way::Then(Order::LowerMode),
+        Way::Then(Order::LowerCell),
+    ];
+
+    /// The refusal that is due.
+    fn number(self) -> u32 {
+        match self {
+            Way::Missing(_) | Way::Both(_) => 9,
+            Way::OutOfOrder(_) | Way::Then(_) => 22,
+        }
+    }
+}
+
+/// The bytes of a spoilt copy, and the refusal that is due if the certificate itself can be read.
+pub fn spoilt(certificate: &Certificate, way: Way, numbers: &mut Numbers) -> (Vec<u8>, Report) {
+    let mut copy = certificate.clone();
+    let at = spoil(&mut copy, way, numbers);
+    let bytes = bytes_of(&copy);
+    let place = bytes.len() - END - ENTRY * (copy.entries.len() - at);
+    (bytes, Report::at(way.number(), place))
+}
+
+/// Spoils the entries, of which there is at least one, and tells which of them is to be refused.
+pub fn spoil(copy: &mut Certificate, way: Way, numbers: &mut Numbers) -> usize {
+    match way {
+        Way::Missing(name) => {
+            let at = numbers.below(copy.entries.len());
+            misname(copy, at, name);
+            at
+        }
+        Way::OutOfOrder(order) => disorder(copy, order, 0, numbers),
+        Way::Both(order) => {
+            let at = disorder(copy, order, 0, numbers);
+            // With a missing mode the pair is out of order only where its cell falls.
+            let falls = copy.entries[at].cell < copy.entries[at - 1].cell;
+            let names = [Name::Signal, Name::Next, Name::Mode];
+            misname(copy, at, numbers.pick(&names[..if falls { 3 } else { 2 }]));
+            at
+        }
+        Way::Then(order) => {
+            let at = disorder(copy, order, 1, numbers);
+            if at + 1 == copy.entries.len() {
+                copy.entries.push(copy.entries[at].clone());
+            }
+            let later = numbers.between(at as u64 + 1, copy.entries.len() as u64 - 1);
+            let names = [Name::Cell, Name::Mode, Name::Signal, Name::Next];
+            misname(copy, later as usize, numbers.pick(&names));
+            at
+        }
+    }
+}
+
+/// Gives a name of an entry its least missing value.
+fn misname(copy: &mut Certificate, at: usize, name: Name) {
+    let cells = cells(copy) as u16;
+    let entry = &mut copy.entries[at];
+    match name {
+        Name::Cell => entry.cell = cells,
+        Name::Mode => entry.mode = copy.modes,
+        Name::Signal => entry.signal = copy.signals.len() as u8,
+        Name::Next => entry.next = copy.modes,
+    }
+}
+
+fn cells(copy: &Certificate) -> usize {
+    copy.cuts.iter().map(|cuts| cuts.len() + 1).product()
+}
+
+/// Puts an entry out of order and tells which. It has so many entries behind it if there are enough in all. A lone
+/// entry gets a second one.
+fn disorder(copy: &mut Certificate, order: Order, behind: usize, numbers: &mut Numbers) -> usize {
+    if copy.entries.len() == 1 {
+        copy.entries.push(copy.entries[0].clone());
+    }
+    let last = copy.entries.len() - 1;
+    let at = numbers.between(1, last.saturating_sub(behind) as u64) as usize;
+    match order {
+        Order::Swapped => copy.entries.swap(at - 1, at),
+        Order::Repeated => repeat(copy, at),
+        Order::LowerMode => lower_mode(copy, at, numbers),
+        Order::LowerCell => lower_cell(copy, at, numbers),
+    }
+    at
+}
+
+fn repeat(copy: &mut Certificate, at: usize) {
+    copy.entries[at].cell = copy.entries[at - 1].cell;
+    copy.entries[at].mode = copy.entries[at - 1].mode;
+}
+
+/// The entry before it passes to mode 1 if it has mode 0.
+fn lower_mode(copy: &mut Certificate, at: usize, numbers: &mut Numbers) {
+    let before = &mut copy.entries[at - 1];
+    if before.mode == 0 {
+        before.mode = 1;
+        copy.modes = copy.modes.max(2);
+    }
+    repeat(copy, at);
+    let most = copy.entries[at].mode - 1;
+    copy.entries[at].mode = numbers.between(0, most.into()) as u8;
+}
+
+/// The entry before it passes to the next cell if its cell is the first or its mode the last.
+fn lower_cell(copy: &mut Certificate, at: usize, numbers: &mut Numbers) {
+    let modes = copy.modes.max(2);
+    let before = &copy.entries[at - 1];
+    let (cell, mode) = match before.cell == 0 || before.mode >= modes - 1 {
+        true => (before.cell.saturating_add(1), 0),
+        false => (before.cell, before.mode),
+    };
+    if usize::from(cell) >= cells(copy) {
+        return repeat(copy, at);
+    }
+    copy.modes = modes;
+    copy.entries[at - 1].cell = cell;
+    copy.entries[at - 1].mode = mode;
+    copy.entries[at].cell = numbers.wide(0, cell - 1);
+    copy.entries[at].mode = numbers.wide(u16::from(mode) + 1, u16::from(modes) - 1) as u8;
+}
