@@ -115,11 +115,11 @@ TooShort s k i = (Present s k i → ⊥) ⊎ (Marked s k i × (Whole s k i → �
 abbrev pub WrongMark : List ℕ → Kind → ℕ → Type 0
 WrongMark s k i = Present s k i × (Marked s k i → ⊥)
 
--- a kind whose line has one refusal
+-- its fields, where its line has one refusal: every kind but EN
 abbrev pub BrokenLine : List ℕ → Kind → ℕ → Type 0
 BrokenLine s k i = Marked s k i × Whole s k i × (Line s k i → ⊥)
 
--- An entry's line has two. Its names come first: it names a missing cell, mode, signal or next mode
+-- An entry's line has two. First its names: a cell, mode, signal or next mode that it names is missing.
 pub data Missing (s : List ℕ) (e : ℕ) : Type 0 where
   cell : cellsOf s ≤ cellOf s e → Missing s e
   mode : modesOf s ≤ modeOf s e → Missing s e
@@ -129,7 +129,7 @@ pub data Missing (s : List ℕ) (e : ℕ) : Type 0 where
 abbrev pub MissingName : List ℕ → ℕ → Type 0
 MissingName s e = Marked s EN e × Whole s EN e × Missing s e
 
--- then its order: its names exist, and its pair (cell, mode) is not above that of entry h, the one before it
+-- Then its order: its names exist, and its pair (cell, mode) is not above that of entry h, the one before it.
 abbrev pub WrongOrder : List ℕ → ℕ → Type 0
 WrongOrder s e =
     Whole s EN e × EntryFacts s e × ((h : ℕ) × (h + 1 ≡ e) × (PairBelow (cellOf s h) (modeOf s h) (cellOf s e) (modeOf s e) → ⊥))
