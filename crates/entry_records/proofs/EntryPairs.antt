@@ -75,14 +75,14 @@ module _ (s : List ℕ) where
 
   -- an entry that is there whole, with its mark, and passes its tests
   pub entry-fine : (e : ℕ) {o : ℕ} {mark named up : Bool} → o ≡ entryAt s e → o + entrySize ≤ length s → mark ≡ marked s o 69 78
-      → named ≡ namesExist s e → up ≡ entryAscends s e → ((mark && named) && up) ≡ true → fine ≡ entryFault s e
+      → named ≡ namesExist s e → up ≡ entryAscends s e → (mark && (named && up)) ≡ true → fine ≡ entryFault s e
   unfolding entryFault
   entry-fine e {o} {mark} {named} {up} here whole p q u holds =
-      let a = and-both (mark && named) up holds in
-      let b = and-both mark named (a .0) in
-      let m : marked s o 69 78 ≡ true = sym p ∙ b .0 in
-      let k : namesExist s e ≡ true = sym q ∙ b .1 in
-      let v : entryAscends s e ≡ true = sym u ∙ a .1 in
+      let a = and-both mark (named && up) holds in
+      let b = and-both named up (a .1) in
+      let m : marked s o 69 78 ≡ true = sym p ∙ a .0 in
+      let k : namesExist s e ≡ true = sym q ∙ b .0 in
+      let v : entryAscends s e ≡ true = sym u ∙ b .1 in
       let opening : opened s o (marked s o 69 78) entrySize ≡ fine = opened-fine s o _ entrySize (omega arith) whole m in
       sym (rw (← here, opening, need-pass (namesExist s e) (refusal 9 o) _ k, need-pass (entryAscends s e) (refusal 22 o) fine v, or-next fine fine refl))
 
