@@ -106,6 +106,7 @@ fn quick(s: &[u8], o: usize, counts: Counts, e: usize, least: usize) -> usize
         return 0;
     }
     let key = key_at(s, o, e);
+    // joined from the right for speed: from the left, the order would be tested before the mark
     if octets::marked_within(s, o, 69, 78) & (names_exist(s, o, counts, e, key) & (least <= key)) {
         return key + 1;
     }
