@@ -219,7 +219,7 @@ fn polls_that_differ_are_told() {
 #[test]
 fn later_numbers_are_told() {
     let cases = format!("{EMPTY}case c\nload e\nload e\n");
-    let due = "case c\nload 22 0 0 0 mode 0 length 0\nload 28 0 0 0 mode 0 length 0\n";
+    let due = "case c\nload 23 0 0 0 mode 0 length 0\nload 28 0 0 0 mode 0 length 0\n";
     let told = run(&folder("later", &cases, due)).unwrap();
     assert_eq!((told.calls, told.agreed()), (2, 0));
     let got = "due load 28 0 0 0 mode 0 length 0\n  got load 3 0 0 0 mode 0 length 0";

@@ -91,7 +91,7 @@ fn equal_pairs() {
 fn cell_falls() {
     refused(&with_pairs(&[[1, 0], [0, 0]]), 22, 1);
     refused(&with_pairs(&[[0, 0], [2, 2], [1, 2]]), 22, 2);
-    // Both fall, and the mode rises.
+    // The mode falls with the cell, or rises while the cell falls.
     refused(&with_pairs(&[[1, 2], [0, 1]]), 22, 1);
     refused(&with_pairs(&[[1, 0], [0, 1]]), 22, 1);
     refused(&with_pairs(&[[0, 1], [2, 0], [1, 2]]), 22, 2);
