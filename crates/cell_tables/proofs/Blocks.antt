@@ -69,7 +69,7 @@ module _ (s : List ℕ) where
 unfoldable pub blockOf : List ℕ → ℕ → ℕ → ℕ
 blockOf s l c = c / spanOf s l * spanOf s l
 
-pub regroup : (q n i w : ℕ) → q * (w * n) + i * w ≡ (q * n + i) * w
+regroup : (q n i w : ℕ) → q * (w * n) + i * w ≡ (q * n + i) * w
 regroup q n i w = rw (add-mul, mul-assoc q n w, mul-comm w n)
 
 module _ (s : List ℕ) (R : Readable s) where

@@ -29,12 +29,12 @@ fn interval_at(s: &[u8], o: usize, scale: usize, x: usize) -> usize
     i
 }
 
-// The number of the links so far with one link more, which counts fastest.
+// The number so far with one link more: times the link's interval count, plus its interval.
 pub fn with_link(cell: usize, count: usize, i: usize) -> usize
     requires { ⌜ cell * count + i ≤ maxCells ⌝ }
     ensures { λ r. ⌜ r ≡ cell * count + i ⌝ }
 {
-    i + cell * count
+    cell * count + i
 }
 
 // The number of the cell, the last link fastest.

@@ -4,6 +4,7 @@ use mathlib.Core.List.{List}
 use mathlib.Core.Bool.{Bool, true, false}
 use mathlib.Core.Path.{_≡_, refl, sym, _∙_}
 use native.Mathlib.Nat.{mul-le-mul-left, le-refl}
+use native.Mathlib.Numerals.{add-one}
 use native.Mathlib.Omega.{arith}
 use borrow.Author.Tests.{ltb-true, ltb-false, leb-true, leb-false, lt-ltb}
 use lib.Dec.{ltb, leb}
@@ -12,9 +13,9 @@ use Rattle.certificate.specs.Records.{cutBefore}
 use Rattle.certificate.specs.Facts.{Readable}
 use Rattle.certificate.proofs.Loops.{Found, found, find-least}
 use Rattle.grid.specs.Intervals.{isInner, lowerEdge, InInterval, intervalAt}
-use Rattle.grid.specs.Cells.{intervalIn, cellAt}
-use Rattle.grid.specs.Laws.{Choice, OneInterval, OneCell}
-use Rattle.grid.proofs.Numbers.{numbers-fit, number-same, reads-back, builds-again}
+use Rattle.grid.specs.Cells.{numberOf, intervalIn, cellAt}
+use Rattle.grid.specs.Laws.{Choice, OneInterval, OneCell, Column, ColumnEnds}
+use Rattle.grid.proofs.Numbers.{link-by-link, number-same, reads-back, builds-again}
 use Rattle.grid.proofs.Edges.{upper-inner, cuts-ascend}
 
 module _ (s : List ℕ) (R : Readable s) (l D x : ℕ) (lt : l < linksOf s) where
@@ -75,7 +76,7 @@ pub one-cell : OneCell
 unfolding cellAt
 one-cell s R D x d h = (
   record {
-    exists = numbers-fit s i choice (linksOf s) (le-refl _);
+    exists = link-by-link s (linksOf s) .below i choice;
     holds = λ l lt. rw (reads-back s i choice l lt) (interval-holds s R l D (x l) lt (h l lt));
   },
   λ c C. sym (builds-again s R c (C .exists)) ∙ number-same s (intervalIn s c) i (linksOf s) (λ l lt. interval-only s R l D (x l) lt _ (C .holds l lt)),
@@ -86,3 +87,13 @@ one-cell s R D x d h = (
 
     choice : Choice s i
     choice l lt = interval-holds s R l D (x l) lt (h l lt) .exists
+
+-- each number of a column is that of the links so far
+column-number : (s : List ℕ) (D : ℕ) (x n : ℕ → ℕ) → Column s D x n → (l : ℕ) → l ≤ linksOf s → n l ≡ numberOf s (λ k. intervalAt s k D (x k)) l
+unfolding numberOf
+column-number s D x n C zero le = C .start
+column-number s D x n C (suc l) le = (rw add-one at (C .step l le)) ∙ rw (column-number s D x n C l (omega arith))
+
+pub column-ends : ColumnEnds
+unfolding cellAt
+column-ends s D x n C = column-number s D x n C (linksOf s) (le-refl _)

@@ -14,20 +14,29 @@ use Rattle.grid.specs.Intervals.{InInterval, intervalAt}
 use Rattle.grid.specs.Cells.{numberOf, intervalIn, lowerOf, upperOf, InCell, cellAt}
 use Rattle.grid.specs.Successors.{imageLow, imageHigh, isSuccessor}
 
--- a choice of one existing interval for each link
-abbrev pub Choice : List ℕ → (ℕ → ℕ) → Type 0
-Choice s i = (l : ℕ) → l < linksOf s → i l < intervalsOf s l
+-- a choice of one existing interval for each of the first l links, and for every link
+abbrev pub ChoiceTo : List ℕ → ℕ → (ℕ → ℕ) → Type 0
+ChoiceTo s l i = (k : ℕ) → k < l → i k < intervalsOf s k
 
--- numbers built link by link are below the product of the counts so far
-abbrev pub NumbersFit : Type 0
-NumbersFit = (s : List ℕ) (i : ℕ → ℕ) → Choice s i → (l : ℕ) → l ≤ linksOf s → numberOf s i l < productOf s l
+abbrev pub Choice : List ℕ → (ℕ → ℕ) → Type 0
+Choice s i = ChoiceTo s (linksOf s) i
+
+-- after l links the numbers so far are those below the product of the counts so far, each from exactly one choice of intervals
+pub record NumbersTo (s : List ℕ) (l : ℕ) : Type 0 where
+  pub below : (i : ℕ → ℕ) → ChoiceTo s l i → numberOf s i l < productOf s l
+  pub some : (n : ℕ) → n < productOf s l → (i : ℕ → ℕ) × ChoiceTo s l i × (numberOf s i l ≡ n)
+  pub one : (i j : ℕ → ℕ) → ChoiceTo s l i → ChoiceTo s l j → numberOf s i l ≡ numberOf s j l → (k : ℕ) → k < l → i k ≡ j k
+
+-- this holds after each link, of every byte list: where a link so far has no interval, there is no choice and no number
+abbrev pub LinkByLink : Type 0
+LinkByLink = (s : List ℕ) (l : ℕ) → NumbersTo s l
 
 -- reading the intervals back from the number of a choice gives the choice
 abbrev pub ReadsBack : Type 0
 ReadsBack =
     (s : List ℕ) (i : ℕ → ℕ) → Choice s i → (l : ℕ) → l < linksOf s → intervalIn s (numberOf s i (linksOf s)) l ≡ i l
 
--- the intervals read from a cell number are a choice, and its number is that cell: so each number below the product comes from exactly one choice
+-- the intervals read from a cell number are a choice, and its number is that cell: the one choice that `LinkByLink` speaks of, for all links
 abbrev pub IsChoice : Type 0
 IsChoice = (s : List ℕ) → Readable s → (c : ℕ) → Choice s (intervalIn s c)
 
@@ -45,6 +54,16 @@ abbrev pub OneCell : Type 0
 OneCell =
     (s : List ℕ) → Readable s → (D : ℕ) (x : ℕ → ℕ) → 1 ≤ D → ((l : ℕ) → l < linksOf s → x l ≤ D * capOf s l)
     → InCell s (cellAt s D x) D x × ((c : ℕ) → InCell s c D x → c ≡ cellAt s D x)
+
+-- a column of numbers as it is worked out on paper for queues x over scale D: 0 at first, and with each link the number so far times the
+-- link's interval count, plus the interval of its queue
+pub record Column (s : List ℕ) (D : ℕ) (x n : ℕ → ℕ) : Type 0 where
+  pub start : n 0 ≡ 0
+  pub step : (l : ℕ) → l < linksOf s → n (l + 1) ≡ n l * intervalsOf s l + intervalAt s l D (x l)
+
+-- it ends with the number of the queues' cell
+abbrev pub ColumnEnds : Type 0
+ColumnEnds = (s : List ℕ) (D : ℕ) (x n : ℕ → ℕ) → Column s D x n → n (linksOf s) ≡ cellAt s D x
 
 -- queues x over scale D lie in the closed cell c; arrivals a in arrival box b
 abbrev pub InClosedCell : List ℕ → ℕ → ℕ → (ℕ → ℕ) → Type 0

@@ -4,18 +4,18 @@ use mathlib.Core.List.{List}
 use mathlib.Core.Bool.{true, false}
 use mathlib.Core.Path.{_≡_, _∙_}
 use mathlib.Core.Logic.{_⊎_, ⊎-elim}
-use native.Mathlib.Nat.{add-mul, zero-mul, mul-comm, mul-one, mul-le-mul-right, one-le-mul, suc-mul, eq-or-lt-of-le}
+use native.Mathlib.Nat.{add-mul, zero-mul, mul-comm, mul-le-mul-right, one-le-mul, eq-or-lt-of-le}
 use native.Mathlib.Omega.{arith}
 use lib.ListN.{getD}
 use Rattle.certificate.specs.Layout.{linksOf, intervalsOf, cellsOf}
 use Rattle.certificate.specs.Facts.{Readable}
 use Rattle.grid.specs.Cells.{numberOf, intervalIn}
-use Rattle.grid.specs.Laws.{Choice}
+use Rattle.grid.specs.Laws.{ChoiceTo, Choice}
 use Rattle.cell_tables.specs.Tables.{weightOf, productOfLast}
 use Rattle.successors.specs.Ranges.{inRange, inRanges, Bounded, NoneIn, Sought, RunTo, FullAfter, Starts, runSize, runEnd}
-use Rattle.grid.proofs.Numbers.{numbers-fit, reads-back, is-choice}
+use Rattle.grid.proofs.Numbers.{link-by-link, reads-back, is-choice}
 use Rattle.successors.proofs.Ranging.{below-or}
-use Rattle.cell_tables.proofs.Blocks.{spanOf, blockOf, span-all, span-next, weight-least, regroup, block-holds, block-first, block-next, block-same, block-fits, interval-below, interval-grows, interval-same}
+use Rattle.cell_tables.proofs.Blocks.{spanOf, blockOf, span-next, weight-least, block-holds, block-first, block-next, block-same, block-fits, interval-below, interval-grows, interval-same}
 use Rattle.successors.proofs.Jumps.{too-low, all-in, each-in, bounds-in, in-bounds}
 use Rattle.cell_tables.proofs.Weights.{span-fits}
 
@@ -58,12 +58,8 @@ abbrev pub NotEmpty : List ℕ → List ℕ → ℕ → Type 0
 NotEmpty first last l = (m : ℕ) → m < l → getD first m 0 ≤ getD last m 0
 
 -- the intervals that a table holds
-abbrev intervalsIn : List ℕ → ℕ → ℕ
+abbrev pub intervalsIn : List ℕ → ℕ → ℕ
 intervalsIn a l = getD a l 0
-
--- the number built of the first intervals of the ranges of the links before l, at its place in the cell number
-abbrev pub firstsOf : List ℕ → List ℕ → ℕ → ℕ
-firstsOf s first l = numberOf s (intervalsIn first) l * spanOf s l
 
 module _ (s : List ℕ) (R : Readable s) (first last : List ℕ) where
   -- of the cells that agree with such a cell r before link l, none before r lies in the ranges
@@ -91,23 +87,10 @@ module _ (s : List ℕ) (R : Readable s) (first last : List ℕ) where
   pub none-below : (l r : ℕ) → l ≤ linksOf s → AtFirst s first l r → NoneIn s first last (blockOf s l r) r
   none-below l r le at c p q = below-first (linksOf s - l) l c r (omega arith) p q at
 
-  -- the number for no links, and for one link more
-  pub firsts-none : firstsOf s first 0 ≡ 0
-  unfolding numberOf
-  firsts-none = zero-mul _
-
-  pub firsts-more : (l : ℕ) → l < linksOf s → firstsOf s first l + getD first l 0 * weightOf s l ≡ firstsOf s first (suc l)
-  unfolding numberOf
-  firsts-more l lt = rw (span-next s l lt) (regroup (numberOf s (intervalsIn first) l) (intervalsOf s l) (getD first l 0) (weightOf s l))
-
   module _ (B : Bounded s first last) where
-    -- a whole block of cells follows it
-    pub firsts-fit : (l : ℕ) → l ≤ linksOf s → NotEmpty first last l → firstsOf s first l + spanOf s l ≤ cellsOf s
-    firsts-fit zero le h = omega (arith, firsts-none, span-all s)
-    firsts-fit (suc l) le h =
-        let i : getD first l 0 < intervalsOf s l = omega (arith, h l (omega arith), B .last-most l le) in
-        let m : suc (getD first l 0) * weightOf s l ≤ intervalsOf s l * weightOf s l = mul-le-mul-right (weightOf s l) i in
-        omega (arith, firsts-fit l (omega arith) (λ m lt. h m (omega arith)), firsts-more l le, suc-mul (getD first l 0) (weightOf s l), span-next s l le, mul-comm (weightOf s l) (intervalsOf s l))
+    -- the first intervals of ranges that are not empty exist
+    pub firsts-chosen : (l : ℕ) → l ≤ linksOf s → NotEmpty first last l → ChoiceTo s l (intervalsIn first)
+    firsts-chosen l le h m lt = omega (arith, h m lt, B .last-most m (omega arith))
 
     -- a run has no more cells than there are
     pub size-fits : (k : ℕ) → k < linksOf s → runSize s first last k ≤ cellsOf s
@@ -116,18 +99,15 @@ module _ (s : List ℕ) (R : Readable s) (first last : List ℕ) where
         omega (arith, span-next s k lt, mul-comm (weightOf s k) (intervalsOf s k), span-fits s R k (omega arith))
 
     -- the number of all first intervals is where the first run starts
-    module _ (r : ℕ) (h : NotEmpty first last (linksOf s)) (e : r ≡ firstsOf s first (linksOf s)) where
+    module _ (r : ℕ) (h : NotEmpty first last (linksOf s)) (e : r ≡ numberOf s (intervalsIn first) (linksOf s)) where
       choice : Choice s (intervalsIn first)
-      choice l lt = omega (arith, h l lt, B .last-most l lt)
-
-      number : r ≡ numberOf s (intervalsIn first) (linksOf s)
-      number = e ∙ rw (span-one s (linksOf s) (omega arith)) (mul-one _)
+      choice = firsts-chosen (linksOf s) (omega arith) h
 
       firsts-at : AtFirst s first 0 r
-      firsts-at m from lt = rw number (reads-back s (intervalsIn first) choice m lt)
+      firsts-at m from lt = rw e (reads-back s (intervalsIn first) choice m lt)
 
       firsts-exist : r < cellsOf s
-      firsts-exist = rw number (numbers-fit s (intervalsIn first) choice (linksOf s) (omega arith))
+      firsts-exist = rw e (link-by-link s (linksOf s) .below (intervalsIn first) choice)
 
       pub first-starts : Starts s first last 0 r
       first-starts =

@@ -6,15 +6,8 @@ ghost use Rattle.certificate.specs.Layout.{maxCells, linksOf, cellsOf};
 ghost use Rattle.certificate.specs.Facts.{Readable};
 ghost use Rattle.cell_tables.specs.Tables.{CountsOf, WeightsOf};
 ghost use Rattle.successors.specs.Ranges.{Bounded, FullAfter, Starts, Sought, runSize};
+use cell_tables::queues;
 use certificate::limits;
-
-// The cell n intervals of that weight past base.
-fn ahead(base: usize, n: usize, weight: usize) -> usize
-    requires { ⌜ base + n * weight ≤ maxCells ⌝ }
-    ensures { λ r. ⌜ r ≡ base + n * weight ⌝ }
-{
-    n * weight + base
-}
 
 // The run link: every link after it has its full range.
 pub fn run_link<'a>(
@@ -40,16 +33,17 @@ pub fn run_link<'a>(
     k
 }
 
-// Where the first run starts, and the number of cells where there is none: some range is empty.
+// Where the first run starts, and the number of cells where there is none: some range is empty. It is the number of the first intervals
+// of all ranges, built link by link.
 pub fn first_run<'a>(
     s: &[u8],
-    weights: &[usize; limits::MAX_LINKS],
+    counts: &[usize; limits::MAX_LINKS],
     first: &'a [usize; limits::MAX_LINKS],
     last: &'a [usize; limits::MAX_LINKS],
     links: usize,
     cells: usize,
 ) -> usize
-    requires { ⌜ Readable (now s) × WeightsOf (now s) (now weights) × (links ≡ linksOf (now s)) × Bounded (now s) (now first) (now last) × (cells ≡ cellsOf (now s)) ⌝ }
+    requires { ⌜ Readable (now s) × CountsOf (now s) (now counts) × (links ≡ linksOf (now s)) × Bounded (now s) (now first) (now last) × (cells ≡ cellsOf (now s)) ⌝ }
     ensures { λ r. ⌜ Sought (now (s .entry)) (now (first .entry)) (now (last .entry)) 0 r × (r < cellsOf (now (s .entry)) → Starts (now (s .entry)) (now (first .entry)) (now (last .entry)) 0 r) ⌝ }
 {
     let mut base = 0;
@@ -58,7 +52,7 @@ pub fn first_run<'a>(
         if last[l] < f {
             return cells;
         }
-        base = ahead(base, f, weights[l]);
+        base = queues::with_link(base, counts[l], f);
     }
     base
 }
@@ -77,5 +71,5 @@ pub fn run_size<'a>(
     if last[k] < first[k] {
         return 0;
     }
-    ahead(0, last[k] + 1 - first[k], weights[k])
+    (last[k] + 1 - first[k]) * weights[k]
 }

@@ -1,5 +1,6 @@
-// The list of all runs of cells in the ranges: where each starts, ascending. It is built link by link from the run link back: what is
-// there is repeated for each further interval of the range of the link, one weight later every time.
+// The list of all runs of cells in the ranges: where each starts, ascending. The number of the first start is built of its intervals
+// (`first_run`); the others are reached from it. From the run link back, what is there is repeated for each further interval of the range
+// of the link, one weight later every time: as many cells later as an interval of that link spans.
 ghost use mathlib.Core.Path.{_≡_};
 ghost use Prim.Native.Nat.{_<_, _≤_};
 ghost use lib.ListN.{length};
@@ -43,7 +44,7 @@ fn fill_starts<'a>(
     requires { ⌜ GridOf (now s) (now counts) (now weights) links × Bounded (now s) (now first) (now last) × (cells ≡ cellsOf (now s)) × FullAfter (now s) (now first) (now last) k × (length (now starts) ≡ maxCells) ⌝ }
     ensures { λ r. ⌜ (length (now (starts .exit)) ≡ maxCells) × RunsOf (now (s .entry)) (now (first .entry)) (now (last .entry)) (now (starts .exit)) r (runSize (now (s .entry)) (now (first .entry)) (now (last .entry)) k) ⌝ }
 {
-    let base = seek::first_run(s, weights, first, last, links, cells);
+    let base = seek::first_run(s, counts, first, last, links, cells);
     if base == cells {
         return 0;
     }

@@ -39,7 +39,7 @@ next c =
     let s = a .args .s .now in
     let o = a .pre .1 (l .loop .l) (omega arith) in
     let e = placed-here s (λ _. a .args .scale) (λ k. getD (a .args .queues .now) k 0) (l .loop .l) _ _ _ _ o (l .before .wide-quad .ensures .0) (c .before .before .wide-quad2 .ensures .0) (c .interval-at .ensures) in
-    number-next s (a .pre .0) _ (placed-choice s (a .pre .0) _ _ (a .pre .5)) (l .loop .l) _ _ _ (omega arith) (l .loop .inv .1) (c .before .count-at .ensures .0 ∙ ap (countAt s) o) e
+    number-next s (a .pre .0) _ (l .loop .l) _ _ _ (omega arith) (λ k h. placed-choice s (a .pre .0) _ _ (a .pre .5) k (omega arith)) (l .loop .inv .1) (c .before .count-at .ensures .0 ∙ ap (countAt s) o) e
 
 wide-quad-requires : tie.Need-wide-quad-requires Inv-loop μ-loop
 wide-quad-requires c κs = search needs

@@ -1,42 +1,47 @@
 -- `successors::seek::first_run` meets its contract. While the ranges passed are not empty, base is the number of their first intervals. Assumes nothing.
 use Prim.Native.Nat.{_+_, _*_, _-_, _≤_, _<_}
-use mathlib.Core.Path.{_≡_, _∙_, sym}
+use mathlib.Core.Path.{_≡_, refl, _∙_}
 use native.Mathlib.Numerals.{add-one}
 use native.Mathlib.Omega.{arith}
 use borrow.Author.Count.{below-none, below-more}
 use lib.ListN.{getD}
-use Rattle.certificate.specs.Layout.{linksOf}
-use Rattle.certificate.proofs.Size.{cells-in-range}
+use Rattle.certificate.specs.Layout.{maxCells, linksOf}
+use Rattle.grid.specs.Cells.{numberOf}
+use Rattle.cell_tables.proofs.Locating.{number-next}
 use Rattle.successors.proofs.Jumps.{none-in}
 use Rattle.successors.specs.Ranges.{Starts, Sought}
-use Rattle.successors.proofs.Runs.{NotEmpty, firstsOf, firsts-none, firsts-more, firsts-fit, first-starts, first-sought}
+use Rattle.successors.proofs.Runs.{NotEmpty, intervalsIn, firsts-chosen, first-starts, first-sought}
 use Rattle.successors.proofs.seek.first_run.Statement.{statement}
 use Rattle.successors.proofs.seek.first_run.Tie as tie
 
 abbrev Inv-loop : tie.InvT-loop
-Inv-loop s weights first last links cells base₀ l₀ base l = (base ≡ firstsOf s first l) × NotEmpty first last l × (l ≤ links)
+Inv-loop s counts first last links cells base₀ l₀ base l = (base ≡ numberOf s (intervalsIn first) l) × NotEmpty first last l × (l ≤ links)
 
 abbrev μ-loop : tie.MeasureT-loop
-μ-loop s weights first last links cells base₀ l₀ base l = links - l
+μ-loop s counts first last links cells base₀ l₀ base l = links - l
 
 exists : (c : tie.In-loop Inv-loop μ-loop) → c .before .loop .l < linksOf (c .before .before .before .args .s .now)
 exists c = omega arith
-
--- the next base, as the code computes it
-next : (c : tie.In-loop Inv-loop μ-loop)
-    → c .before .loop .base + getD (c .before .before .before .args .first .now) (c .before .loop .l) 0 * getD (c .before .before .before .args .weights .now) (c .before .loop .l) 0
-    ≡ firstsOf (c .before .before .before .args .s .now) (c .before .before .before .args .first .now) (c .before .loop .l + 1)
-next c =
-    let l = c .before .loop in
-    let a = c .before .before .before in
-    rw (l .inv .0, a .pre .1 (l .l) (exists c), add-one) (firsts-more (a .args .s .now) (a .pre .0) (a .args .first .now) (a .args .last .now) (l .l) (exists c))
 
 -- the ranges are not empty up to this link
 more : (c : tie.Else1 Inv-loop μ-loop) → NotEmpty (c .before .before .before .before .before .before .args .first .now) (c .before .before .before .before .before .before .args .last .now) (c .before .before .before .before .loop .l + 1)
 more c = let l = c .before .before .before .before .loop in below-more _ (l .l) (l .inv .1) (c .if1 .left)
 
+-- the number with one link more, and that it fits
+next : (c : tie.Else1 Inv-loop μ-loop)
+    → (c .before .before .before .before .loop .base * getD (c .before .before .before .before .before .before .args .counts .now) (c .before .before .before .before .loop .l) 0 + getD (c .before .before .before .before .before .before .args .first .now) (c .before .before .before .before .loop .l) 0
+    ≡ numberOf (c .before .before .before .before .before .before .args .s .now) (intervalsIn (c .before .before .before .before .before .before .args .first .now)) (c .before .before .before .before .loop .l + 1))
+    × (c .before .before .before .before .loop .base * getD (c .before .before .before .before .before .before .args .counts .now) (c .before .before .before .before .loop .l) 0 + getD (c .before .before .before .before .before .before .args .first .now) (c .before .before .before .before .loop .l) 0 ≤ maxCells)
+next c =
+    let i = c .before .before .before in
+    let l = i .before .loop in
+    let a = i .before .before .before in
+    let s = a .args .s .now in
+    number-next s (a .pre .0) _ (l .l) _ _ _ (exists i) (firsts-chosen s (a .pre .0) _ _ (a .pre .3) _ (exists i) (rw add-one at (more c))) (l .inv .0) (a .pre .1 (l .l) (exists i)) refl
+
 loop-holds : tie.Need-loop-holds Inv-loop μ-loop
-loop-holds c = let a = c .before in (sym (firsts-none (a .args .s .now) (a .pre .0) (a .args .first .now) (a .args .last .now)), below-none _, omega arith)
+unfolding numberOf
+loop-holds c = (refl, below-none _, omega arith)
 
 mul-f : tie.Need-mul-f Inv-loop μ-loop
 mul-f c = omega arith
@@ -63,20 +68,14 @@ returns c =
       λ h. absurd (omega arith),
     )
 
-mul-ahead : tie.Need-mul-ahead Inv-loop μ-loop
-mul-ahead c = omega arith
+mul-with-link : tie.Need-mul-with-link Inv-loop μ-loop
+mul-with-link c = omega arith
 
-element-copy-out-ahead : tie.Need-element-copy-out-ahead Inv-loop μ-loop
-element-copy-out-ahead c = omega arith
+element-copy-out-with-link : tie.Need-element-copy-out-with-link Inv-loop μ-loop
+element-copy-out-with-link c = omega arith
 
-ahead-requires : tie.Need-ahead-requires Inv-loop μ-loop
-ahead-requires c κs =
-    let i = c .before .before .before .before in
-    let a = i .before .before .before in
-    let s = a .args .s .now in
-    let R = a .pre .0 in
-    let fits = firsts-fit s R _ _ (a .pre .3) (i .before .loop .l + 1) (omega (arith, exists i)) (more (c .before)) in
-    omega (arith, next i, cells-in-range s R)
+with-link-requires : tie.Need-with-link-requires Inv-loop μ-loop
+with-link-requires c κs = next (c .before) .1
 
 add-l : tie.Need-add-l Inv-loop μ-loop
 add-l c = omega arith
@@ -85,7 +84,7 @@ loop-less : tie.Need-loop-less Inv-loop μ-loop
 loop-less c = omega arith
 
 loop-again : tie.Need-loop-again Inv-loop μ-loop
-loop-again c = (c .ahead .ensures ∙ next (c .before .before .before .before .before), more (c .before .before), omega arith)
+loop-again c = (c .with-link .ensures ∙ next (c .before .before) .0, more (c .before .before), omega arith)
 
 -- past the last link, the run found starts on every link
 whole : (c : tie.After-loop Inv-loop μ-loop)
@@ -116,9 +115,9 @@ first-run-spec =
     mul-if1
     element-copy-out-if1
     returns
-    mul-ahead
-    element-copy-out-ahead
-    ahead-requires
+    mul-with-link
+    element-copy-out-with-link
+    with-link-requires
     add-l
     loop-less
     loop-again

@@ -35,44 +35,44 @@ element-copy-out-if1-2 c = search needs
 
 returns : tie.Need-returns
 returns c =
-    let a = c .before .before .before .before in
+    let a = c .before .before .before in
     let none : getD (a .args .last .now) (a .args .k) 0 + 1 - getD (a .args .first .now) (a .args .k) 0 ≡ 0 = omega (arith, c .if1 .taken) in
     (rw none (sym (zero-mul _)), omega arith)
 
-mul-ahead : tie.Need-mul-ahead
-mul-ahead c = search needs
+mul-result : tie.Need-mul-result
+mul-result c = search needs
 
-element-copy-out-ahead : tie.Need-element-copy-out-ahead
-element-copy-out-ahead c = search needs
+element-copy-out-result : tie.Need-element-copy-out-result
+element-copy-out-result c = search needs
 
-add-ahead : tie.Need-add-ahead
-add-ahead c =
-    let a = c .before .before .before .before .before in
+add-result : tie.Need-add-result
+add-result c =
+    let a = c .before .before .before .before in
     let k = a .args .k in
     omega (arith, a .pre .2 .last-most k (a .pre .3), a .pre .0 .grid k (a .pre .3) .count-most)
 
-mul-ahead-2 : tie.Need-mul-ahead-2
-mul-ahead-2 c = search needs
+mul-result-2 : tie.Need-mul-result-2
+mul-result-2 c = search needs
 
-element-copy-out-ahead-2 : tie.Need-element-copy-out-ahead-2
-element-copy-out-ahead-2 c = search needs
+element-copy-out-result-2 : tie.Need-element-copy-out-result-2
+element-copy-out-result-2 c = search needs
 
-sub-ahead : tie.Need-sub-ahead
-sub-ahead c = search needs
+sub-result : tie.Need-sub-result
+sub-result c = search needs
 
-mul-ahead-3 : tie.Need-mul-ahead-3
-mul-ahead-3 c = search needs
+mul-result-3 : tie.Need-mul-result-3
+mul-result-3 c = search needs
 
-element-copy-out-ahead-3 : tie.Need-element-copy-out-ahead-3
-element-copy-out-ahead-3 c = search needs
+element-copy-out-result-3 : tie.Need-element-copy-out-result-3
+element-copy-out-result-3 c = search needs
 
-ahead-requires : tie.Need-ahead-requires
-ahead-requires c κs = let a = c .before .before .before .before .before .before .before in omega (arith, size a, fits a)
+mul-result-4 : tie.Need-mul-result-4
+mul-result-4 c = let a = c .before .before .before .before .before .before in omega (arith, size a, fits a)
 
 returns-2 : tie.Need-returns-2
 returns-2 c =
-    let a = c .before .before .before .before .before .before .before .before in
-    (omega (arith, c .ahead .ensures, size a), omega (arith, c .ahead .ensures, size a, fits a))
+    let a = c .before .before .before .before .before .before in
+    (size a, omega (arith, size a, fits a))
 
 pub run-size-spec : {M : Type 1} → statement M
 run-size-spec =
@@ -83,13 +83,13 @@ run-size-spec =
     mul-if1-2
     element-copy-out-if1-2
     returns
-    mul-ahead
-    element-copy-out-ahead
-    add-ahead
-    mul-ahead-2
-    element-copy-out-ahead-2
-    sub-ahead
-    mul-ahead-3
-    element-copy-out-ahead-3
-    ahead-requires
+    mul-result
+    element-copy-out-result
+    add-result
+    mul-result-2
+    element-copy-out-result-2
+    sub-result
+    mul-result-3
+    element-copy-out-result-3
+    mul-result-4
     returns-2)

@@ -21,7 +21,7 @@ abbrev μ-loop : tie.MeasureT-loop
 μ-loop s counts weights first last links cells k starts₀ base size₀ l₀ starts size l = l
 
 first-run-requires : tie.Need-first-run-requires Inv-loop μ-loop
-first-run-requires c κs = let p = c .before .before .pre in (p .0 .readable, p .0 .weight, p .0 .link, p .1, p .2)
+first-run-requires c κs = let p = c .before .before .pre in (p .0 .readable, p .0 .count, p .0 .link, p .1, p .2)
 
 returns : tie.Need-returns Inv-loop μ-loop
 returns c = let a = c .before .before .before .before in
