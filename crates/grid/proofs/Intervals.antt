@@ -13,7 +13,7 @@ use Rattle.certificate.specs.Records.{cutBefore}
 use Rattle.certificate.specs.Facts.{Readable}
 use Rattle.certificate.proofs.Loops.{Found, found, find-least}
 use Rattle.grid.specs.Intervals.{isInner, lowerEdge, InInterval, intervalAt}
-use Rattle.grid.specs.Cells.{numberOf, intervalIn, cellAt}
+use Rattle.grid.specs.Cells.{numberOf, intervalIn, InCell, cellAt}
 use Rattle.grid.specs.Laws.{Choice, OneInterval, OneCell, Column, ColumnEnds}
 use Rattle.grid.proofs.Numbers.{link-by-link, number-same, reads-back, builds-again}
 use Rattle.grid.proofs.Edges.{upper-inner, cuts-ascend}
@@ -72,28 +72,30 @@ module _ (s : List ℕ) (R : Readable s) (l D x : ℕ) (lt : l < linksOf s) wher
 pub one-interval : OneInterval
 one-interval s R l D x lt d h = (interval-holds s R l D x lt h, interval-only s R l D x lt)
 
+-- the number of intervals that hold the queues is the queues' cell
+pub held-cell : (s : List ℕ) (D : ℕ) (x i : ℕ → ℕ) → ((l : ℕ) → l < linksOf s → InInterval s l (i l) D (x l)) → InCell s (numberOf s i (linksOf s)) D x
+held-cell s D x i held =
+    let choice : Choice s i = λ l lt. held l lt .exists in
+    record {
+      exists = link-by-link s (linksOf s) .below i choice;
+      holds = λ l lt. rw (reads-back s i choice l lt) (held l lt);
+    }
+
 pub one-cell : OneCell
 unfolding cellAt
 one-cell s R D x d h = (
-  record {
-    exists = link-by-link s (linksOf s) .below i choice;
-    holds = λ l lt. rw (reads-back s i choice l lt) (interval-holds s R l D (x l) lt (h l lt));
-  },
+  held-cell s D x i (λ l lt. interval-holds s R l D (x l) lt (h l lt)),
   λ c C. sym (builds-again s R c (C .exists)) ∙ number-same s (intervalIn s c) i (linksOf s) (λ l lt. interval-only s R l D (x l) lt _ (C .holds l lt)),
 )
   where
     i : ℕ → ℕ
     i l = intervalAt s l D (x l)
 
-    choice : Choice s i
-    choice l lt = interval-holds s R l D (x l) lt (h l lt) .exists
-
 -- each number of a column is that of the links so far
-column-number : (s : List ℕ) (D : ℕ) (x n : ℕ → ℕ) → Column s D x n → (l : ℕ) → l ≤ linksOf s → n l ≡ numberOf s (λ k. intervalAt s k D (x k)) l
+column-number : (s : List ℕ) (D : ℕ) (x i n : ℕ → ℕ) → Column s D x i n → (l : ℕ) → l ≤ linksOf s → n l ≡ numberOf s i l
 unfolding numberOf
-column-number s D x n C zero le = C .start
-column-number s D x n C (suc l) le = (rw add-one at (C .step l le)) ∙ rw (column-number s D x n C l (omega arith))
+column-number s D x i n C zero le = C .start
+column-number s D x i n C (suc l) le = (rw add-one at (C .step l le)) ∙ rw (column-number s D x i n C l (omega arith))
 
 pub column-ends : ColumnEnds
-unfolding cellAt
-column-ends s D x n C = column-number s D x n C (linksOf s) (le-refl _)
+column-ends s D x i n C = rw (column-number s D x i n C (linksOf s) (le-refl _)) (held-cell s D x i (C .holds))

@@ -55,15 +55,16 @@ OneCell =
     (s : List ℕ) → Readable s → (D : ℕ) (x : ℕ → ℕ) → 1 ≤ D → ((l : ℕ) → l < linksOf s → x l ≤ D * capOf s l)
     → InCell s (cellAt s D x) D x × ((c : ℕ) → InCell s c D x → c ≡ cellAt s D x)
 
--- a column of numbers as it is worked out on paper for queues x over scale D: 0 at first, and with each link the number so far times the
--- link's interval count, plus the interval of its queue
-pub record Column (s : List ℕ) (D : ℕ) (x n : ℕ → ℕ) : Type 0 where
+-- a column of numbers n as it is worked out on paper for queues x over scale D: on each link the interval i that holds its queue; 0 at first,
+-- and with each link the number so far times the link's interval count, plus its interval
+pub record Column (s : List ℕ) (D : ℕ) (x i n : ℕ → ℕ) : Type 0 where
+  pub holds : (l : ℕ) → l < linksOf s → InInterval s l (i l) D (x l)
   pub start : n 0 ≡ 0
-  pub step : (l : ℕ) → l < linksOf s → n (l + 1) ≡ n l * intervalsOf s l + intervalAt s l D (x l)
+  pub step : (l : ℕ) → l < linksOf s → n (l + 1) ≡ n l * intervalsOf s l + i l
 
--- it ends with the number of the queues' cell
+-- it ends with the queues' cell: the one cell that `OneCell` speaks of
 abbrev pub ColumnEnds : Type 0
-ColumnEnds = (s : List ℕ) (D : ℕ) (x n : ℕ → ℕ) → Column s D x n → n (linksOf s) ≡ cellAt s D x
+ColumnEnds = (s : List ℕ) (D : ℕ) (x i n : ℕ → ℕ) → Column s D x i n → InCell s (n (linksOf s)) D x
 
 -- queues x over scale D lie in the closed cell c; arrivals a in arrival box b
 abbrev pub InClosedCell : List ℕ → ℕ → ℕ → (ℕ → ℕ) → Type 0

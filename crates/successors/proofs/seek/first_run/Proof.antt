@@ -23,21 +23,27 @@ abbrev μ-loop : tie.MeasureT-loop
 exists : (c : tie.In-loop Inv-loop μ-loop) → c .before .loop .l < linksOf (c .before .before .before .args .s .now)
 exists c = omega arith
 
+-- where the function and where the loop's turn begins, seen from behind the test of the range
+abbrev start : tie.Else1 Inv-loop μ-loop → tie.Start Inv-loop μ-loop
+start c = c .before .before .before .before .before .before
+
+abbrev turn : tie.Else1 Inv-loop μ-loop → tie.At-loop Inv-loop μ-loop
+turn c = c .before .before .before .before
+
 -- the ranges are not empty up to this link
-more : (c : tie.Else1 Inv-loop μ-loop) → NotEmpty (c .before .before .before .before .before .before .args .first .now) (c .before .before .before .before .before .before .args .last .now) (c .before .before .before .before .loop .l + 1)
-more c = let l = c .before .before .before .before .loop in below-more _ (l .l) (l .inv .1) (c .if1 .left)
+more : (c : tie.Else1 Inv-loop μ-loop) → NotEmpty (start c .args .first .now) (start c .args .last .now) (turn c .loop .l + 1)
+more c = below-more _ (turn c .loop .l) (turn c .loop .inv .1) (c .if1 .left)
 
 -- the number with one link more, and that it fits
 next : (c : tie.Else1 Inv-loop μ-loop)
-    → (c .before .before .before .before .loop .base * getD (c .before .before .before .before .before .before .args .counts .now) (c .before .before .before .before .loop .l) 0 + getD (c .before .before .before .before .before .before .args .first .now) (c .before .before .before .before .loop .l) 0
-    ≡ numberOf (c .before .before .before .before .before .before .args .s .now) (intervalsIn (c .before .before .before .before .before .before .args .first .now)) (c .before .before .before .before .loop .l + 1))
-    × (c .before .before .before .before .loop .base * getD (c .before .before .before .before .before .before .args .counts .now) (c .before .before .before .before .loop .l) 0 + getD (c .before .before .before .before .before .before .args .first .now) (c .before .before .before .before .loop .l) 0 ≤ maxCells)
+    → (turn c .loop .base * getD (start c .args .counts .now) (turn c .loop .l) 0 + getD (start c .args .first .now) (turn c .loop .l) 0 ≡ numberOf (start c .args .s .now) (intervalsIn (start c .args .first .now)) (turn c .loop .l + 1))
+    × (turn c .loop .base * getD (start c .args .counts .now) (turn c .loop .l) 0 + getD (start c .args .first .now) (turn c .loop .l) 0 ≤ maxCells)
 next c =
-    let i = c .before .before .before in
-    let l = i .before .loop in
-    let a = i .before .before .before in
-    let s = a .args .s .now in
-    number-next s (a .pre .0) _ (l .l) _ _ _ (exists i) (firsts-chosen s (a .pre .0) _ _ (a .pre .3) _ (exists i) (rw add-one at (more c))) (l .inv .0) (a .pre .1 (l .l) (exists i)) refl
+    let l = turn c .loop in
+    let a = start c in
+    let lt = exists (c .before .before .before) in
+    let chosen = firsts-chosen (a .args .s .now) (a .pre .0) _ _ (a .pre .3) _ lt (rw add-one at (more c)) in
+    number-next (a .args .s .now) (a .pre .0) _ (l .l) _ _ _ lt chosen (l .inv .0) (a .pre .1 (l .l) lt) refl
 
 loop-holds : tie.Need-loop-holds Inv-loop μ-loop
 unfolding numberOf
