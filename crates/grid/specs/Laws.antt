@@ -55,7 +55,7 @@ OneCell =
     (s : List ℕ) → Readable s → (D : ℕ) (x : ℕ → ℕ) → 1 ≤ D → ((l : ℕ) → l < linksOf s → x l ≤ D * capOf s l)
     → InCell s (cellAt s D x) D x × ((c : ℕ) → InCell s c D x → c ≡ cellAt s D x)
 
--- a column of numbers n as it is worked out on paper for queues x over scale D: on each link the interval i that holds its queue; 0 at first,
+-- a column of numbers n as it is worked out by hand for queues x over scale D: on each link the interval i that holds its queue; 0 at first,
 -- and with each link the number so far times the link's interval count, plus its interval
 pub record Column (s : List ℕ) (D : ℕ) (x i n : ℕ → ℕ) : Type 0 where
   pub holds : (l : ℕ) → l < linksOf s → InInterval s l (i l) D (x l)
