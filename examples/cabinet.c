@@ -13,8 +13,8 @@ static uint8_t state[ROADSIDE_STATE];
 static uint8_t before[ROADSIDE_STATE]; /* its bytes before a call */
 static int failed;
 
-/* What is expected of a query or a poll that succeeds, of one that is refused at a link, and of a load. Any other refusal is its
- * number alone. */
+/* What is expected of a query or a poll that succeeds, of one that is refused at a link, and of a load that is refused or accepted.
+ * Any other refusal is its number alone. */
 static uint64_t showing(unsigned signal, unsigned green)
 {
     return (uint64_t)signal << 24 | (uint64_t)green << 32;
@@ -25,9 +25,14 @@ static uint64_t at_link(unsigned number, unsigned link)
     return number | (uint64_t)link << 8;
 }
 
-static uint64_t judged(unsigned number, unsigned a, unsigned b, unsigned count)
+static uint64_t turned_down(unsigned number, unsigned a, unsigned b, unsigned count)
 {
     return number | (uint64_t)a << 8 | (uint64_t)b << 24 | (uint64_t)count << 36;
+}
+
+static uint64_t taken(unsigned count, unsigned overflows)
+{
+    return (uint64_t)overflows << 8 | (uint64_t)count << 36;
 }
 
 /* Ends the line of a call. */
@@ -57,8 +62,11 @@ static void try_load(const char *what, const uint8_t *certificate, size_t len, u
 
     memcpy(before, state, sizeof state);
     result = roadside_load(state, sizeof state, certificate, len);
-    printf("%s: number %u, A %u, B %u, count %u", what, ROADSIDE_NUMBER(result), ROADSIDE_LOAD_A(result),
-           ROADSIDE_LOAD_B(result), ROADSIDE_LOAD_COUNT(result));
+    if (ROADSIDE_NUMBER(result) == ROADSIDE_DONE)
+        printf("%s: number 0, count %u, overflows %u", what, ROADSIDE_LOAD_COUNT(result), ROADSIDE_LOAD_OVERFLOWS(result));
+    else
+        printf("%s: number %u, A %u, B %u, count %u", what, ROADSIDE_NUMBER(result), ROADSIDE_LOAD_A(result),
+               ROADSIDE_LOAD_B(result), ROADSIDE_LOAD_COUNT(result));
     end_line(result, expected);
 }
 
@@ -109,8 +117,8 @@ static void start(void)
     end_line(result, ROADSIDE_DONE);
     put_both(poll, 9.5, 9.5);
     try_poll("poll before a load", poll, sizeof poll, ROADSIDE_NO_CERTIFICATE);
-    try_load("load L with 3 arrivals", busier_l, sizeof busier_l, judged(ROADSIDE_NOT_LOWER, 1, 1, 3));
-    try_load("load L", certificate_l, sizeof certificate_l, judged(ROADSIDE_DONE, 0, 0, 4));
+    try_load("load L with 3 arrivals", busier_l, sizeof busier_l, turned_down(ROADSIDE_NOT_LOWER, 1, 1, 3));
+    try_load("load L", certificate_l, sizeof certificate_l, taken(4, 0));
 }
 
 /* L: one link, cap 10; signal 0 with green 01 in every cell. */
@@ -159,7 +167,8 @@ static void two_links(void)
     uint8_t poll[2 * ROADSIDE_LINK];
     uint8_t *const link0 = poll, *const link1 = poll + ROADSIDE_LINK;
 
-    try_load("load two junctions", two_junctions, sizeof two_junctions, judged(ROADSIDE_DONE, 0, 0, 24));
+    try_load("load a red link", red_link, sizeof red_link, taken(1, 1));
+    try_load("load two junctions", two_junctions, sizeof two_junctions, taken(24, 0));
     put_one(link0, 3, 7);
     put_both(link1, 9, 12.5);
     try_poll("3; 9 and 12.5: cell 1", poll, sizeof poll, showing(1, 0x02));

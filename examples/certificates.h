@@ -54,4 +54,16 @@ static const uint8_t two_junctions[] = {
     0x5A, 0x5A,
 };
 
+/* A link that stays red, cap 10, goal and safe 10, with up to 1 arrival a step: accepted, and its one entry may turn an arrival
+ * away */
+static const uint8_t red_link[] = {
+    0x48, 0x44, 1, 0, 1, 1, 1, 0, 1,
+    0x4C, 0x4B, 0, 1, 0, 10, 0, 6, 0, 10, 0, 10,
+    0x53, 0x47, 0x00,
+    0x47, 0x52, 1,
+    0x41, 0x52, 0, 0, 0, 1,
+    0x45, 0x4E, 0, 0, 0, 0, 0, 0, 0,
+    0x5A, 0x5A,
+};
+
 #endif

@@ -29,6 +29,13 @@ static void tell(const char *what, uint32_t returned, uint32_t expected)
     must(returned == report[DERGVOST_NUMBER] && returned == expected, what);
 }
 
+/* The same of judge and load, which have a place more. */
+static void tell_verdict(const char *what, uint32_t returned, uint32_t expected)
+{
+    tell(what, returned, expected);
+    printf("  overflows %u\n", (unsigned)report[DERGVOST_OVERFLOWS]);
+}
+
 static void list(const char *what, const uint8_t *certificate, size_t len)
 {
     size_t length;
@@ -54,7 +61,7 @@ static void bytes_alone(const char *name, const uint8_t *certificate, size_t len
 {
     printf("%s\n", name);
     tell("screen", dergvost_screen(certificate, len, report, DERGVOST_REPORT), DERGVOST_DONE);
-    tell("judge", dergvost_judge(certificate, len, report, DERGVOST_REPORT), verdict);
+    tell_verdict("judge", dergvost_judge(certificate, len, report, DERGVOST_VERDICT), verdict);
     list("list", certificate, len);
 }
 
@@ -64,11 +71,11 @@ static void with_state(void)
     printf("a state\n");
     must(dergvost_fresh(state, sizeof state) == DERGVOST_DONE, "fresh");
     query("query before a load", 9, 2, DERGVOST_NO_CERTIFICATE);
-    tell("load L", dergvost_load(state, sizeof state, certificate_l, sizeof certificate_l, report, DERGVOST_REPORT),
-         DERGVOST_DONE);
+    tell_verdict("load L", dergvost_load(state, sizeof state, certificate_l, sizeof certificate_l, report, DERGVOST_VERDICT),
+                 DERGVOST_DONE);
     memcpy(before, state, sizeof state);
-    tell("load L with 3 arrivals", dergvost_load(state, sizeof state, busier_l, sizeof busier_l, report, DERGVOST_REPORT),
-         DERGVOST_NOT_LOWER);
+    tell_verdict("load L with 3 arrivals",
+                 dergvost_load(state, sizeof state, busier_l, sizeof busier_l, report, DERGVOST_VERDICT), DERGVOST_NOT_LOWER);
     must(memcmp(state, before, sizeof state) == 0, "a refused load leaves the state");
     query("query 20 over 2", 20, 2, DERGVOST_DONE);
     query("query 21 over 2", 21, 2, DERGVOST_MISFIT);
@@ -92,8 +99,8 @@ static void short_state(void)
     memcpy(before, state, sizeof state);
     memset(buffer, '#', sizeof buffer);
     must(dergvost_fresh(state, len) == DERGVOST_NO_CERTIFICATE, "fresh");
-    tell("load", dergvost_load(state, len, certificate_l, sizeof certificate_l, report, DERGVOST_REPORT),
-         DERGVOST_NO_CERTIFICATE);
+    tell_verdict("load", dergvost_load(state, len, certificate_l, sizeof certificate_l, report, DERGVOST_VERDICT),
+                 DERGVOST_NO_CERTIFICATE);
     tell("query", dergvost_query(state, len, &queue, 1, 2, report, DERGVOST_SHOWN), DERGVOST_NO_CERTIFICATE);
     tell("write", dergvost_write(state, len, buffer, sizeof buffer, 0, report, DERGVOST_REPORT), DERGVOST_NO_CERTIFICATE);
     must(memcmp(state, before, sizeof state) == 0, "the state stays");
@@ -118,9 +125,9 @@ static void short_report(void)
     memcpy(kept, report, sizeof kept);
     printf("a report one place short\n");
     too_short("screen", dergvost_screen(l, len, report, places));
-    too_short("judge", dergvost_judge(l, len, report, places));
+    too_short("judge", dergvost_judge(l, len, report, DERGVOST_VERDICT - 1));
     too_short("list", dergvost_list(l, len, buffer, sizeof buffer, report, places));
-    too_short("load", dergvost_load(state, less, l, len, report, places));
+    too_short("load", dergvost_load(state, less, l, len, report, DERGVOST_VERDICT - 1));
     too_short("query", dergvost_query(state, less, &queue, 1, 2, report, DERGVOST_SHOWN - 1));
     too_short("write", dergvost_write(state, less, buffer, sizeof buffer, 0, report, places));
     must(memcmp(report, kept, sizeof kept) == 0, "the report stays");
@@ -132,6 +139,7 @@ int main(void)
 {
     bytes_alone("L", certificate_l, sizeof certificate_l, DERGVOST_DONE);
     bytes_alone("L with 3 arrivals", busier_l, sizeof busier_l, DERGVOST_NOT_LOWER);
+    bytes_alone("a red link", red_link, sizeof red_link, DERGVOST_DONE);
     with_state();
     short_state();
     short_report();

@@ -4,7 +4,7 @@
  * caller owns, and then asked for signals and written out again.
  *
  * Every call but dergvost_fresh is lent a report, a slice of 32-bit numbers. It is filled on refusal too, in this order: number,
- * A, B, count; and for a query signal and green byte. Further places stay as they were. Every call returns the number: 0 is
+ * A, B, count; for judge and load overflows; for a query signal and green byte. Further places stay as they were. Every call returns the number: 0 is
  * success, anything else a refusal, which changes nothing but the report. A report that is too short gets DERGVOST_TOO_SHORT,
  * before every other test, and nothing changes at all.
  *
@@ -37,14 +37,15 @@ extern "C" {
 #define DERGVOST_STATE (DERGVOST_ARRAY + DERGVOST_LENGTH + DERGVOST_MODE) /* 37,772 */
 
 /* A buffer of this many bytes has room for every listing, and one of DERGVOST_ARRAY for every certificate. */
-#define DERGVOST_LISTING 94288
+#define DERGVOST_LISTING 94293
 
 /* Stack that is enough for every call, in bytes, with room to spare: measured were 260 KB for a load, 182 KB for judge and list,
  * and 38 KB for a query or a write. */
 #define DERGVOST_STACK (512 * 1024)
 
-/* Places of a report, and of a query's report. */
+/* Places of a report, of a report of judge and load, and of a query's report. */
 #define DERGVOST_REPORT 4
+#define DERGVOST_VERDICT 5
 #define DERGVOST_SHOWN 6
 
 /* Where the parts of a report stand. */
@@ -53,8 +54,10 @@ enum dergvost_place {
     DERGVOST_A = 1,
     DERGVOST_B = 2,
     DERGVOST_COUNT = 3,
-    DERGVOST_SIGNAL = 4, /* of a query; 0 on refusal */
-    DERGVOST_GREEN = 5   /* of a query: bit i, of value 2 to the i, is set when link i is green; 0 on refusal */
+    DERGVOST_OVERFLOWS = 4, /* of judge and load: entries under which a link may exceed its cap, so that arrivals are turned
+                               away; 0 on refusal */
+    DERGVOST_SIGNAL = 4,    /* of a query; 0 on refusal */
+    DERGVOST_GREEN = 5      /* of a query: bit i, of value 2 to the i, is set when link i is green; 0 on refusal */
 };
 
 /* The number of a report. Where A, B and count name something, the line says so; they are 0 otherwise. */
@@ -95,7 +98,7 @@ enum dergvost_number {
 /* The tests before 12. Refused with 1 to 9 and 22, then with 10 and 11. */
 uint32_t dergvost_screen(const uint8_t *certificate, size_t certificate_len, uint32_t *report, size_t report_len);
 
-/* The verdict. Refused with 1 to 9 and 22, then with 10 to 15. */
+/* The verdict. Its report has 5 places. Refused with 1 to 9 and 22, then with 10 to 15. */
 uint32_t dergvost_judge(const uint8_t *certificate, size_t certificate_len, uint32_t *report, size_t report_len);
 
 /* Puts the listing into the front of a buffer, of a refused certificate too; A is its length. Refused with 17. */
@@ -106,7 +109,7 @@ uint32_t dergvost_list(const uint8_t *certificate, size_t certificate_len, uint8
 uint32_t dergvost_fresh(uint8_t *state, size_t state_len);
 
 /* Judges a certificate; an accepted one is copied into the state, in place of what was there, and the mode is 0. It may be
- * called in any state. Refused with 18 for the state's length, then as judge. */
+ * called in any state. Its report has 5 places. Refused with 18 for the state's length, then as judge. */
 uint32_t dergvost_load(uint8_t *state, size_t state_len, const uint8_t *certificate, size_t certificate_len,
                        uint32_t *report, size_t report_len);
 

@@ -54,7 +54,7 @@ extern "C" {
 
 /* The number of a result. Where A, B and count name something, the line says so; they are 0 otherwise. */
 enum roadside_number {
-    ROADSIDE_DONE = 0, /* success; a load: count = successors looked up */
+    ROADSIDE_DONE = 0, /* success; a load: count = successors looked up, and overflows below */
 
     /* the certificate of a load is refused */
     ROADSIDE_CUT_SHORT = 1,      /* fewer bytes than the due record or its mark needs; A = offset of its start */
@@ -96,6 +96,9 @@ enum roadside_number {
 #define ROADSIDE_LOAD_A(result) ROADSIDE_PART(result, 8, 0xFFFF)
 #define ROADSIDE_LOAD_B(result) ROADSIDE_PART(result, 24, 0xFFF)
 #define ROADSIDE_LOAD_COUNT(result) ROADSIDE_PART(result, 36, 0xFFFFFFF)
+
+/* of a load whose number is 0, which has no A: entries under which a link may exceed its cap, so that arrivals are turned away: */
+#define ROADSIDE_LOAD_OVERFLOWS(result) ROADSIDE_PART(result, 8, 0xFFFF)
 
 #define ROADSIDE_PART(result, shift, mask) ((unsigned)((uint64_t)(result) >> (shift) & (mask)))
 

@@ -35,6 +35,32 @@ pub fn next_queues(
     arrivals: &Amounts,
     scale: i128,
 ) -> Amounts {
+    let uncut = uncut_queues(certificate, green, queues, arrivals, scale);
+    cut(&uncut, &caps(certificate, scale))
+}
+
+/// The cap of each link over `FINER` × scale.
+pub fn caps(certificate: &Certificate, scale: i128) -> Amounts {
+    let mut caps = [0; MOST_LINKS];
+    for (number, link) in certificate.links.iter().enumerate() {
+        caps[number] = FINER * i128::from(link.cap) * scale;
+    }
+    caps
+}
+
+/// Queues cut at their caps.
+pub fn cut(uncut: &Amounts, caps: &Amounts) -> Amounts {
+    std::array::from_fn(|link| uncut[link].min(caps[link]))
+}
+
+/// The next queues as they are before they are cut at cap.
+pub fn uncut_queues(
+    certificate: &Certificate,
+    green: u8,
+    queues: &Amounts,
+    arrivals: &Amounts,
+    scale: i128,
+) -> Amounts {
     let sent = sent(certificate, green, queues, scale);
     let mut next = [0; MOST_LINKS];
     for link in 0..certificate.links.len() {
@@ -42,9 +68,6 @@ pub fn next_queues(
     }
     for turn in &certificate.turns {
         next[turn.to] += i128::from(turn.share) * sent[turn.from];
-    }
-    for (number, link) in certificate.links.iter().enumerate() {
-        next[number] = next[number].min(FINER * i128::from(link.cap) * scale);
     }
     next
 }

@@ -1,7 +1,7 @@
 //! The image of a closed cell under a signal and an arrival box.
 
 use crate::certificate::{Arrival, Certificate, MOST_LINKS};
-use crate::flow::{next_queues, Amounts, FINER};
+use crate::flow::{caps, cut, uncut_queues, Amounts, FINER};
 use crate::grid::Interval;
 
 /// Least and greatest next queue of each link, over `FINER`.
@@ -9,6 +9,8 @@ use crate::grid::Interval;
 pub struct Image {
     pub low: Amounts,
     pub high: Amounts,
+    /// Does the next queue of each link, not cut at cap, exceed cap for some queues and arrivals?
+    pub over: [bool; MOST_LINKS],
 }
 
 impl Image {
@@ -19,11 +21,17 @@ impl Image {
             .all(|(link, interval)| interval.meets(self.low[link], self.high[link], FINER))
     }
 
-    /// Makes room for one more point.
-    fn stretch(&mut self, next: &Amounts) {
-        for (link, &queue) in next.iter().enumerate() {
+    /// Is there a link whose next queue may exceed cap?
+    pub fn overflows(&self) -> bool {
+        self.over.contains(&true)
+    }
+
+    /// Makes room for one more point, which is not cut at cap yet.
+    fn stretch(&mut self, uncut: &Amounts, caps: &Amounts) {
+        for (link, &queue) in cut(uncut, caps).iter().enumerate() {
             self.low[link] = self.low[link].min(queue);
             self.high[link] = self.high[link].max(queue);
+            self.over[link] |= uncut[link] > caps[link];
         }
     }
 }
@@ -54,7 +62,7 @@ fn arrival_ends(arrivals: &[Arrival]) -> [Amounts; 2] {
 }
 
 /// The image, by all corners of the closed cell with the least and the greatest arrivals.
-/// A network that passes both conditions is monotone in each queue, so corners suffice;
+/// A network that passes both conditions is monotone in each queue, before the cut at cap too, so corners suffice;
 /// arrivals of a link move its own next queue alone, and up.
 pub fn image(
     certificate: &Certificate,
@@ -63,15 +71,20 @@ pub fn image(
     arrivals: &[Arrival],
 ) -> Image {
     let ends = arrival_ends(arrivals);
-    let first = next_queues(certificate, green, &corner_queues(cell, 0), &ends[0], 1);
+    let caps = caps(certificate, 1);
+    let step = |corner, arrivals| {
+        let queues = corner_queues(cell, corner);
+        uncut_queues(certificate, green, &queues, arrivals, 1)
+    };
+    let first = cut(&step(0, &ends[0]), &caps);
     let mut image = Image {
         low: first,
         high: first,
+        over: [false; MOST_LINKS],
     };
     for corner in 0..1 << cell.len() {
-        let queues = corner_queues(cell, corner);
         for end in &ends {
-            image.stretch(&next_queues(certificate, green, &queues, end, 1));
+            image.stretch(&step(corner, end), &caps);
         }
     }
     image

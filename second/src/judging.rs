@@ -1,34 +1,36 @@
-//! Judging the entries of a certificate: refusals 12 to 15, and the count.
+//! Judging the entries of a certificate: refusals 12 to 15, the count, and how many entries may overflow.
 
 use crate::certificate::{Certificate, Entry, Link};
 use crate::conditions::read_sound;
 use crate::grid::{cells, Cell, Interval};
 use crate::image::image;
-use crate::report::Report;
+use crate::report::{Report, Verdict};
 
-/// Judges any bytes: 0 with the count, or the first refusal of 1 to 15 and 22.
-pub fn judge(bytes: &[u8]) -> Report {
+/// Judges any bytes: 0 with the count and the entries that may overflow, or the first refusal of 1 to 15 and 22.
+pub fn judge(bytes: &[u8]) -> Verdict {
     match read_sound(bytes) {
         Ok(certificate) => judge_entries(&certificate),
-        Err(refusal) => refusal,
+        Err(refusal) => Verdict::refused(refusal),
     }
 }
 
 /// Judges the entries of a certificate that has passed every test before 12.
-pub fn judge_entries(certificate: &Certificate) -> Report {
+pub fn judge_entries(certificate: &Certificate) -> Verdict {
     let cells = cells(certificate);
     let judging = Judging {
         certificate,
         ranks: listed_ranks(certificate, cells.len()),
         cells,
     };
-    let mut count = 0;
+    let (mut count, mut overflows) = (0, 0);
     for number in 0..certificate.entries.len() {
-        if let Err(refusal) = judging.entry(number, &mut count) {
-            return refusal.counting(count);
+        match judging.entry(number, &mut count) {
+            Ok(true) => overflows += 1,
+            Ok(false) => (),
+            Err(refusal) => return Verdict::refused(refusal.counting(count)),
         }
     }
-    Report::SUCCESS.counting(count)
+    Verdict::accepted(count, overflows)
 }
 
 /// The rank of each listed pair, by cell and then mode.
@@ -55,8 +57,9 @@ struct Judging<'a> {
 }
 
 impl Judging<'_> {
-    /// Judges one entry whole: safe, rank against goal, then its successors.
-    fn entry(&self, number: usize, count: &mut u64) -> Result<(), Report> {
+    /// Judges one entry whole: safe, rank against goal, then its successors. Tells whether a link may exceed its cap in
+    /// some arrival box.
+    fn entry(&self, number: usize, count: &mut u64) -> Result<bool, Report> {
         let entry = &self.certificate.entries[number];
         let links = &self.certificate.links;
         let cell = &self.cells[usize::from(entry.cell)];
@@ -68,8 +71,10 @@ impl Judging<'_> {
             return Err(Report::at(13, number));
         }
         let green = self.certificate.signals[usize::from(entry.signal)];
+        let mut overflows = false;
         for arrivals in &self.certificate.arrivals {
             let image = image(self.certificate, green, cell, arrivals);
+            overflows |= image.overflows();
             for (successor, other) in self.cells.iter().enumerate() {
                 if image.meets(other) {
                     *count += 1;
@@ -78,7 +83,7 @@ impl Judging<'_> {
                 }
             }
         }
-        Ok(())
+        Ok(overflows)
     }
 
     /// Looks one successor up: listed with the next mode, then lower in rank unless the entry has rank 0.

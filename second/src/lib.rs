@@ -21,5 +21,5 @@ pub mod text;
 pub use certificate::Certificate;
 pub use judging::judge;
 pub use listing::listing;
-pub use report::Report;
+pub use report::{Report, Verdict};
 pub use state::State;

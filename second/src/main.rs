@@ -60,9 +60,9 @@ fn main() -> ExitCode {
 }
 
 fn list(file: &str) -> Result<u8, Failure> {
-    let (text, report) = listing(&read(file)?);
+    let (text, verdict) = listing(&read(file)?);
     print(text.as_bytes())?;
-    Ok(if report.number == 0 { 0 } else { 1 })
+    Ok(if verdict.is_accepted() { 0 } else { 1 })
 }
 
 /// Two link numbers that differ.
@@ -84,9 +84,9 @@ fn two_links(across: &str, up: &str) -> Result<[usize; 2], Failure> {
 
 fn picture(file: &str, links: Option<[usize; 2]>) -> Result<u8, Failure> {
     let drawn = draw(&read(file)?, links);
-    let (picture, report) = drawn.map_err(|what| Failure::new(2, format!("{file}: {what}")))?;
+    let (picture, verdict) = drawn.map_err(|what| Failure::new(2, format!("{file}: {what}")))?;
     print(picture.as_bytes())?;
-    Ok(if report.number == 0 { 0 } else { 1 })
+    Ok(if verdict.is_accepted() { 0 } else { 1 })
 }
 
 fn encode(file: &str) -> Result<u8, Failure> {

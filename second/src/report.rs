@@ -1,4 +1,4 @@
-//! The result of a call.
+//! The result of a call, and the verdict on a certificate.
 
 use std::fmt;
 
@@ -53,5 +53,43 @@ impl Report {
 impl fmt::Display for Report {
     fn fmt(&self, out: &mut fmt::Formatter<'_>) -> fmt::Result {
         write!(out, "{} {} {} {}", self.number, self.a, self.b, self.count)
+    }
+}
+
+/// What judging finds.
+#[derive(Clone, Copy, Debug, PartialEq, Eq)]
+pub struct Verdict {
+    pub report: Report,
+    /// Entries under which a link may exceed its cap in some arrival box; 0 with a refusal.
+    pub overflows: u64,
+}
+
+impl Verdict {
+    pub const fn accepted(count: u64, overflows: u64) -> Verdict {
+        Verdict {
+            report: Report::SUCCESS.counting(count),
+            overflows,
+        }
+    }
+
+    pub const fn refused(report: Report) -> Verdict {
+        Verdict {
+            report,
+            overflows: 0,
+        }
+    }
+
+    pub const fn is_accepted(self) -> bool {
+        self.report.number == 0
+    }
+}
+
+impl fmt::Display for Verdict {
+    fn fmt(&self, out: &mut fmt::Formatter<'_>) -> fmt::Result {
+        write!(out, "{}", self.report)?;
+        match self.is_accepted() {
+            true => write!(out, " overflow {}", self.overflows),
+            false => Ok(()),
+        }
     }
 }

@@ -8,7 +8,7 @@ use second::flow::{next_queues, Amounts, FINER};
 use second::grid::{cell_of, cells};
 use second::image::image;
 use second::reading::read;
-use second::{judge, listing, Certificate, Report, State};
+use second::{judge, listing, Certificate, Report, State, Verdict};
 
 fn report(number: u32, a: u64, b: u64, count: u64) -> Report {
     Report {
@@ -32,34 +32,43 @@ fn amounts(values: &[i128]) -> Amounts {
 #[test]
 fn p1_l_is_accepted() {
     assert_eq!(bytes(L_TEXT), L);
-    assert_eq!(judge(&L), report(0, 0, 0, 4));
+    assert_eq!(judge(&L), Verdict::accepted(4, 0));
 }
 
 #[test]
 fn p2_image_that_ends_at_5_touches_cell_1() {
     let high = l_with("arrivals 0-2", "arrivals 0-3");
-    assert_eq!(judge(&high), report(15, 1, 1, 3));
+    assert_eq!(judge(&high).report, report(15, 1, 1, 3));
 }
 
 #[test]
 fn p3_rank_0_without_goal() {
-    assert_eq!(judge(&l_with("rank 1", "rank 0")), report(13, 1, 0, 1));
+    assert_eq!(
+        judge(&l_with("rank 1", "rank 0")).report,
+        report(13, 1, 0, 1)
+    );
 }
 
 #[test]
 fn goal_without_rank_0() {
-    assert_eq!(judge(&l_with("rank 0", "rank 1")), report(13, 0, 0, 0));
+    assert_eq!(
+        judge(&l_with("rank 0", "rank 1")).report,
+        report(13, 0, 0, 0)
+    );
 }
 
 #[test]
 fn p4_successor_not_listed() {
     let second = "entry cell 1 mode 0 signal 0 next 0 rank 1\n";
-    assert_eq!(judge(&l_with(second, "")), report(14, 1, 1, 3));
+    assert_eq!(judge(&l_with(second, "")).report, report(14, 1, 1, 3));
 }
 
 #[test]
 fn p5_cell_not_safe() {
-    assert_eq!(judge(&l_with("safe 10", "safe 9")), report(12, 2, 0, 2));
+    assert_eq!(
+        judge(&l_with("safe 10", "safe 9")).report,
+        report(12, 2, 0, 2)
+    );
 }
 
 #[test]
@@ -105,8 +114,8 @@ fn p8_text(pull: u32) -> String {
 #[test]
 fn p8_flow_condition() {
     assert_eq!(check_flows(&certificate(&p8_text(34))), Ok(()));
-    assert_eq!(judge(&bytes(&p8_text(34))), report(0, 0, 0, 1));
-    assert_eq!(judge(&bytes(&p8_text(33))), report(11, 0, 0, 0));
+    assert_eq!(judge(&bytes(&p8_text(34))).report, report(0, 0, 0, 1));
+    assert_eq!(judge(&bytes(&p8_text(33))).report, report(11, 0, 0, 0));
 }
 
 /// Two green turns into link 2, share 100.
@@ -131,8 +140,8 @@ fn p9_text(pull: u32) -> String {
 #[test]
 fn p9_pull_sum() {
     assert_eq!(check_pull_sums(&certificate(&p9_text(50))), Ok(()));
-    assert_eq!(judge(&bytes(&p9_text(50))), report(0, 0, 0, 1));
-    assert_eq!(judge(&bytes(&p9_text(51))), report(10, 1, 2, 0));
+    assert_eq!(judge(&bytes(&p9_text(50))).report, report(0, 0, 0, 1));
+    assert_eq!(judge(&bytes(&p9_text(51))).report, report(10, 1, 2, 0));
 }
 
 #[test]
@@ -143,7 +152,7 @@ fn p10_query_at_scale_2() {
     assert_eq!(cell_of(&l, &[20], 2), Some(2));
     assert_eq!(cell_of(&l, &[21], 2), None);
     let mut state = State::fresh();
-    assert_eq!(state.load(&L).number, 0);
+    assert!(state.load(&L).is_accepted());
     for queue in [9, 10, 20] {
         assert_eq!(state.query(&[queue], 2).report, Report::SUCCESS);
     }
@@ -176,12 +185,12 @@ fn p11_link_with_the_same_tail_pushes_down() {
 
 #[test]
 fn empty_short_and_long_input() {
-    assert_eq!(judge(&[]), report(1, 0, 0, 0));
-    assert_eq!(judge(&L[..65]), report(1, 64, 0, 0));
+    assert_eq!(judge(&[]).report, report(1, 0, 0, 0));
+    assert_eq!(judge(&L[..65]).report, report(1, 64, 0, 0));
     for byte in [0x00, 0x5A, 0xFF] {
         let mut long = L.to_vec();
         long.push(byte);
-        assert_eq!(judge(&long), report(2, 66, 0, 0));
+        assert_eq!(judge(&long).report, report(2, 66, 0, 0));
     }
 }
 
@@ -192,9 +201,9 @@ links 1 turns 0 signals 1 modes 1 arrivals 1 entries 3
 0 0 0 0 0
 1 0 0 0 1
 2 0 0 0 2
-accepted 4
+accepted 4 0
 ";
-    assert_eq!(listing(&L), (whole.to_string(), report(0, 0, 0, 4)));
+    assert_eq!(listing(&L), (whole.to_string(), Verdict::accepted(4, 0)));
     let high = l_with("arrivals 0-2", "arrivals 0-3");
     assert_eq!(listing(&high).0, "refused 15 1 1 3\n");
     assert_eq!(listing(&[]).0, "refused 1 0 0 0\n");

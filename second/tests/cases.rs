@@ -1,8 +1,10 @@
 //! Stored cases: those of the product, this checker's own, and malformed ones.
 
+mod common;
+
+use common::folder::{folder, malformed, EMPTY};
 use second::cases::run;
-use std::fs;
-use std::path::{Path, PathBuf};
+use std::path::Path;
 
 /// Runs a folder beside this package; every call must agree.
 fn all_agree(folder: &str) {
@@ -26,25 +28,6 @@ fn stored_cases_agree() {
 #[test]
 fn own_cases_agree() {
     all_agree("tests/data");
-}
-
-/// A folder with these two files.
-fn folder(name: &str, cases: &str, due: &str) -> PathBuf {
-    let folder = Path::new(env!("CARGO_TARGET_TMPDIR")).join(name);
-    let _ = fs::remove_dir_all(&folder);
-    fs::create_dir_all(&folder).unwrap();
-    fs::write(folder.join("x.cases"), cases).unwrap();
-    fs::write(folder.join("x.due"), due).unwrap();
-    folder
-}
-
-const EMPTY: &str = "paper e\nend\n";
-
-fn malformed(name: &str, cases: &str, due: &str, message: &str) {
-    let folder = folder(name, &format!("{EMPTY}{cases}"), due);
-    let fault = run(&folder).expect_err(name);
-    let place = format!("{}/", folder.display());
-    assert_eq!(fault.replace(&place, ""), message, "{name}");
 }
 
 #[test]
@@ -185,7 +168,7 @@ fn bad_calls_and_results() {
     malformed(
         "unknown-call",
         "case c\nload g\n",
-        "case c\nload 0 0 0 0 mode 0 length 0\n",
+        "case c\nload 0 0 0 0 overflow 0 mode 0 length 0\n",
         "x.cases:4: expected a `paper g`",
     );
     malformed(
@@ -202,19 +185,6 @@ fn bad_calls_and_results() {
     );
 }
 
-#[test]
-fn polls_that_differ_are_told() {
-    let cases = format!("{EMPTY}case c\npoll fault 0a 7ff8000000000000\npoll bytes none\n");
-    let due =
-        "case c\npoll 21 3 0 0 signal 0 green 00 mode 0\npoll 18 0 0 0 signal 0 green 00 mode 0\n";
-    let told = run(&folder("poll-told", &cases, due)).unwrap();
-    assert_eq!((told.calls, told.agreed()), (2, 1));
-    assert!(told.mismatches[0].ends_with(
-        "x.cases:4: case c: poll fault 0a 7ff8000000000000\n  \
-         due poll 21 3 0 0 signal 0 green 00 mode 0\n  got poll 18 0 0 0 signal 0 green 00 mode 0"
-    ));
-}
-
 /// Numbers that no call gives yet can be due; the call then differs.
 #[test]
 fn later_numbers_are_told() {
@@ -224,67 +194,4 @@ fn later_numbers_are_told() {
     assert_eq!((told.calls, told.agreed()), (2, 0));
     let got = "due load 28 0 0 0 mode 0 length 0\n  got load 3 0 0 0 mode 0 length 0";
     assert!(told.mismatches[1].ends_with(got));
-}
-
-/// The line of a poll is refused, as something else was expected there.
-fn bad_poll(line: &str, expected: &str) {
-    let name = format!("bad-{}", line.replace(' ', "-"));
-    let message = format!("x.cases:4: expected {expected}");
-    malformed(&name, &format!("case c\n{line}\n"), "", &message);
-}
-
-#[test]
-fn bad_readings() {
-    let reading = "`fault` or a reading of 16 hexadecimal digits";
-    for word in ["none", "4014", "+000000000000000", "5.0", "fault00"] {
-        bad_poll(
-            &format!("poll {word}"),
-            &format!("`bytes`, {reading}, found `{word}`"),
-        );
-    }
-    bad_poll(
-        "poll",
-        &format!("`bytes`, {reading}, found the end of the line"),
-    );
-    for word in ["bytes", "40140000000000000", "40140000"] {
-        bad_poll(
-            &format!("poll 0000000000000000 {word}"),
-            &format!("{reading}, found `{word}`"),
-        );
-    }
-}
-
-#[test]
-fn bad_faults_and_bytes_of_polls() {
-    let byte = "a byte of two hexadecimal digits";
-    let end = "found the end of the line";
-    bad_poll("poll fault", &format!("{byte}, {end}"));
-    bad_poll("poll fault 100", &format!("{byte}, found `100`"));
-    bad_poll("poll bytes", &format!("`none` or {byte}, {end}"));
-    bad_poll("poll bytes 00 none", &format!("{byte}, found `none`"));
-    bad_poll("poll bytes 0", &format!("{byte}, found `0`"));
-    bad_poll("poll bytes none 00", "the end of the line, found `00`");
-}
-
-#[test]
-fn results_of_polls() {
-    let cases = "case c\npoll bytes none\n";
-    malformed(
-        "poll-as-query",
-        cases,
-        "case c\nquery 18 0 0 0 signal 0 green 00 mode 0\n",
-        "x.due:2: expected the result of a poll, found `query 18 0 0 0 signal 0 green 00 mode 0`",
-    );
-    malformed(
-        "poll-number",
-        cases,
-        "case c\npoll 29 0 0 0 signal 0 green 00 mode 0\n",
-        "x.due:2: expected the result's number (a number from 0 to 28), found `29`",
-    );
-    malformed(
-        "poll-green",
-        cases,
-        "case c\npoll 18 0 0 0 signal 0 green 256 mode 0\n",
-        "x.due:2: expected a byte of two hexadecimal digits, found `256`",
-    );
 }

@@ -14,7 +14,7 @@ links 1 turns 0 signals 1 modes 1 arrivals 1 entries 3
 0 0 0 0 0
 1 0 0 0 1
 2 0 0 0 2
-accepted 4
+accepted 4 0
 ";
     ends(&["list", "-"], &L, 0, whole.as_bytes(), "");
     ends(&["list", "-"], &L[..65], 1, b"refused 1 64 0 0\n", "");
@@ -58,7 +58,7 @@ fn files_that_cannot_be_read() {
 #[test]
 fn cases() {
     let data = concat!(env!("CARGO_MANIFEST_DIR"), "/tests/data");
-    let last = b"35 of 35 calls in 4 cases agreed\n";
+    let last = b"39 of 39 calls in 5 cases agreed\n";
     ends(&["cases", data], b"", 0, last, "");
     let sources = concat!(env!("CARGO_MANIFEST_DIR"), "/src");
     let none = format!("{sources}: no case was found\n");

@@ -4,7 +4,7 @@ mod common;
 
 use common::large::Large;
 use common::program::{ends, ends_with_2, second};
-use common::{bytes, crossing, l_with, L};
+use common::{bytes, crossing, l_with, BESIDE, L};
 use second::draw::draw;
 use std::fs;
 use std::path::Path;
@@ -51,13 +51,25 @@ fn stored_pictures_are_made_again() {
 fn accepted() {
     let l = picture(&L);
     assert!(l.contains(">Signal policy certificate: accepted</text>"));
-    assert!(l.contains(">accepted 4</text>"));
+    assert!(l.contains(">accepted 4 0</text>"));
+    assert!(l.contains(
+        ">No arrivals are turned away: under no entry may a link exceed its cap.</text>"
+    ));
     assert!(l.contains(">cap 10 · flow 6</text>") && l.contains(">safe 10 · goal 5</text>"));
     assert_eq!(count(&l, "junction"), 1);
     // The three cells of the row, and in the legend a sample, three shades and the hatching.
     assert_eq!(count(&l, "cell"), 3 + 5);
     assert_eq!(l.matches("url(#hatch)").count(), 1);
     assert_eq!((count(&l, "entry"), count(&l, "successor")), (0, 0));
+}
+
+#[test]
+fn accepted_with_overflows() {
+    let picture = picture(&bytes(BESIDE));
+    assert!(picture.contains(">accepted 4 3</text>"));
+    let words = "Arrivals may be turned away: under 3 of 3 entries a link may exceed its cap.";
+    assert!(picture.contains(&format!(">{words}</text>")));
+    assert!(!picture.contains("No arrivals"));
 }
 
 #[test]
@@ -68,6 +80,7 @@ fn refused_for_an_entry() {
     // Each mark stands in the legend too.
     assert_eq!(count(&unsafe_cell, "entry"), 2);
     assert_eq!(count(&unsafe_cell, "successor"), 0);
+    assert!(!unsafe_cell.contains("turned away"));
     let rank = picture(&l_with("rank 1", "rank 0"));
     assert!(rank.contains("goal without rank 0 (A 1, B 0, count 1)</text>"));
     assert!(rank.contains("Upper edges over goal: link 0: 8 above goal 5."));

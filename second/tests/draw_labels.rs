@@ -3,7 +3,7 @@
 mod common;
 
 use common::large::Large;
-use common::{bytes, crossing, L};
+use common::{bytes, crossing, BESIDE, L};
 use second::draw::draw;
 
 /// What a rectangle holds, and its edges in tenths of a pixel.
@@ -127,8 +127,9 @@ fn labels_stand_apart(name: &str, picture: &str) {
 
 /// The picture of a certificate that can be read.
 fn picture(certificate: &[u8], links: Option<[usize; 2]>) -> String {
-    let (picture, report) = draw(certificate, links).unwrap();
-    assert!(report.number == 0 || report.number > 9, "{report}");
+    let (picture, verdict) = draw(certificate, links).unwrap();
+    let number = verdict.report.number;
+    assert!(number == 0 || number > 9, "{verdict}");
     picture
 }
 
@@ -225,7 +226,7 @@ fn of_large_certificates() {
 
 #[test]
 fn of_small_certificates() {
-    for certificate in [&L[..], &L[..65], &crossing()] {
+    for certificate in [&L[..], &L[..65], &crossing(), &bytes(BESIDE)] {
         let (picture, _) = draw(certificate, None).unwrap();
         labels_stand_apart("small", &picture);
     }

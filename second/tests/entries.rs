@@ -44,7 +44,7 @@ fn at(number: u32, entry: usize) -> Report {
 
 fn refused(bytes: &[u8], number: u32, entry: usize) {
     assert_eq!(read(bytes), Err(at(number, entry)), "{bytes:02X?}");
-    assert_eq!(judge(bytes), at(number, entry), "{bytes:02X?}");
+    assert_eq!(judge(bytes).report, at(number, entry), "{bytes:02X?}");
 }
 
 fn can_be_read(pairs: &[[u16; 2]]) {
@@ -175,11 +175,11 @@ fn order_before_faults_of_later_records() {
     refused(&[&whole[..], &[0]].concat(), 22, 1);
     // The entry's own mark and bytes come first.
     for length in faulty..third {
-        assert_eq!(judge(&whole[..length]), Report::at(1, faulty));
+        assert_eq!(judge(&whole[..length]).report, Report::at(1, faulty));
     }
     let mut marked = whole.clone();
     marked[faulty] = b'x';
-    assert_eq!(judge(&marked), Report::at(2, faulty));
+    assert_eq!(judge(&marked).report, Report::at(2, faulty));
 }
 
 #[test]
@@ -193,9 +193,9 @@ fn order_before_conditions_and_judging() {
         (12, "safe 40 goal 40", "safe 39 goal 39"),
     ] {
         let text = CROSSING.replace(old, new);
-        assert_eq!(judge(&bytes(&text)).number, number);
+        assert_eq!(judge(&bytes(&text)).report.number, number);
         let text = text.replace(one, &swapped);
-        assert_eq!(judge(&bytes(&text)), Report::at(22, start + 9));
+        assert_eq!(judge(&bytes(&text)).report, Report::at(22, start + 9));
     }
 }
 
@@ -203,14 +203,14 @@ fn order_before_conditions_and_judging() {
 fn places_in_l() {
     let second = "entry cell 1 mode 0";
     let equal = l_with(second, "entry cell 0 mode 0");
-    assert_eq!(judge(&equal), Report::at(22, 46));
+    assert_eq!(judge(&equal).report, Report::at(22, 46));
     assert_eq!(listing(&equal).0, "refused 22 46 0 0\n");
     let absent = bytes(&format!(
         "header modes 1\n{}",
         L_TEXT.replace(second, "entry cell 1 mode 1")
     ));
-    assert_eq!(judge(&absent), Report::at(9, 46));
+    assert_eq!(judge(&absent).report, Report::at(9, 46));
     assert_eq!(listing(&absent).0, "refused 9 46 0 0\n");
     // A rank may be any value.
-    assert_eq!(judge(&l_with("rank 2", "rank 65535")).number, 0);
+    assert_eq!(judge(&l_with("rank 2", "rank 65535")).report.number, 0);
 }

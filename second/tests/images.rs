@@ -5,10 +5,10 @@ mod common;
 use common::bytes;
 use second::certificate::is_green;
 use second::conditions::read_sound;
-use second::flow::{next_queues, Amounts, FINER};
+use second::flow::{caps, next_queues, uncut_queues, Amounts, FINER};
 use second::grid::{cells, Interval};
 use second::image::image;
-use second::{judge, Certificate, Report};
+use second::{judge, Certificate, Verdict};
 
 /// A plain row of numbers that look random, the same in every run.
 struct Numbers(u64);
@@ -67,18 +67,20 @@ fn point(numbers: &mut Numbers, ranges: &[(u16, u16)], scale: u64) -> Amounts {
     point
 }
 
-/// Steps from points of a closed cell stay in its image, which meets the cell they lead to.
+/// Steps from points of a closed cell stay in its image, which meets the cell they lead to and tells where a link may
+/// exceed its cap. Tells how many steps had such a link.
 fn sample(
     certificate: &Certificate,
     cell: &[Interval],
     all: &[Vec<Interval>],
     numbers: &mut Numbers,
-) {
+) -> usize {
     let green = certificate.signals[0];
     let arrivals = &certificate.arrivals[0];
     let image = image(certificate, green, cell, arrivals);
     let sides: Vec<_> = cell.iter().map(|i| (i.low, i.high)).collect();
     let ranges: Vec<_> = arrivals.iter().map(|a| (a.low, a.high)).collect();
+    let mut exceeding = 0;
     for _ in 0..20 {
         let scale = numbers.between(1, 9);
         let queues = point(numbers, &sides, scale);
@@ -89,6 +91,12 @@ fn sample(
             assert!(image.low[link] * scale <= queue);
             assert!(queue <= image.high[link] * scale);
         }
+        let uncut = uncut_queues(certificate, green, &queues, &come, scale);
+        let caps = caps(certificate, scale);
+        let over = uncut.iter().zip(&caps).map(|(queue, cap)| queue > cap);
+        let over: Vec<bool> = over.collect();
+        assert!(over.iter().zip(&image.over).all(|(own, all)| own <= all));
+        exceeding += usize::from(over.contains(&true));
         let holds = |other: &&Vec<Interval>| {
             let mut sides = other.iter().zip(&next);
             sides.all(|(side, &queue)| side.holds(queue, FINER * scale))
@@ -97,12 +105,13 @@ fn sample(
         assert_eq!(leads_to.len(), 1);
         assert!(image.meets(leads_to[0]));
     }
+    exceeding
 }
 
 #[test]
 fn images_hold_every_sampled_step() {
     let mut numbers = Numbers(1);
-    let (mut sampled, mut passing) = (0, 0);
+    let (mut sampled, mut passing, mut exceeding) = (0, 0, 0);
     for _ in 0..3_000 {
         let Ok(certificate) = read_sound(&bytes(&network(&mut numbers))) else {
             continue;
@@ -119,12 +128,16 @@ fn images_hold_every_sampled_step() {
         let all = cells(&certificate);
         for _ in 0..10 {
             let cell = numbers.between(0, all.len() as u64 - 1) as usize;
-            sample(&certificate, &all[cell], &all, &mut numbers);
+            exceeding += sample(&certificate, &all[cell], &all, &mut numbers);
             sampled += 1;
         }
     }
     assert!(passing > 100, "{passing}");
     assert_eq!(sampled, 10 * passing);
+    assert!(
+        exceeding > sampled && exceeding < 15 * sampled,
+        "{exceeding} of {sampled}"
+    );
 }
 
 /// Eight green links, all of whose cells are goal, under arrivals that may lead anywhere.
@@ -154,8 +167,10 @@ fn widest(grids: &str, entries: usize, boxes: usize) -> Vec<u8> {
 fn widest_certificate_is_judged() {
     let grids = "grid 10\n".repeat(4) + &"grid 5 10 15\n".repeat(4);
     let certificate = widest(&grids, 4_096, 8);
-    let report = judge(&certificate);
+    let Verdict { report, overflows } = judge(&certificate);
     assert_eq!((report.number, report.a, report.b), (0, 0, 0));
+    // What turns into links 4 to 7 comes on top of 20 arrivals.
+    assert_eq!(overflows, 4_096);
     assert!(report.count <= 4_096 * 8 * 4_096);
     assert_eq!(report.count % 8, 0);
 }
@@ -174,5 +189,5 @@ fn count_can_reach_its_bound() {
         arrivals 0-20 0-20\n\
         entry cell 0..63 mode 0 signal 0 next 0 rank 0\n\
         end\n";
-    assert_eq!(judge(&bytes(text)), Report::SUCCESS.counting(64 * 3 * 64));
+    assert_eq!(judge(&bytes(text)), Verdict::accepted(64 * 3 * 64, 64));
 }

@@ -58,7 +58,7 @@ fn told() -> State {
 
 fn loaded(bytes: &[u8]) -> State {
     let mut state = State::fresh();
-    assert_eq!(state.load(bytes).number, 0);
+    assert!(state.load(bytes).is_accepted());
     state
 }
 

@@ -16,7 +16,7 @@ fn l_poked(offset: usize, new: &[u8]) -> Vec<u8> {
 }
 
 fn refused(bytes: &[u8], number: u32, a: usize) {
-    assert_eq!(judge(bytes), Report::at(number, a), "{bytes:02X?}");
+    assert_eq!(judge(bytes).report, Report::at(number, a), "{bytes:02X?}");
 }
 
 #[test]
@@ -160,7 +160,7 @@ fn arrival_fields() {
 #[test]
 fn byte_after_the_end_comes_before_conditions() {
     let text = CROSSING.replace("pull 34", "pull 1");
-    assert_eq!(judge(&bytes(&text)), Report::at(11, 0));
+    assert_eq!(judge(&bytes(&text)).report, Report::at(11, 0));
     let long = bytes(&format!("{text}bytes 00\n"));
     refused(&long, 2, long.len() - 1);
 }

@@ -1,10 +1,12 @@
 //! The stream of calls for a test program, and what that program must print.
 
+mod common;
+
+use common::folder::folder;
 use second::cases::{expected, hash, stream};
 use second::state::Answer;
 use second::{listing, Report, State};
-use std::fs;
-use std::path::{Path, PathBuf};
+use std::path::Path;
 
 /// A test program: it plays a stream on this checker and prints what came.
 struct Player<'a> {
@@ -54,9 +56,13 @@ impl<'a> Player<'a> {
 
     fn load(&mut self) {
         let bytes = self.counted_bytes();
-        let report = self.state.load(bytes);
+        let verdict = self.state.load(bytes);
         let (mode, length) = (self.state.mode, self.state.length);
-        self.line(format!("load {report} mode {mode} length {length}"));
+        let mut line = format!("load {}", verdict.report);
+        if verdict.report.number == 0 {
+            line += &format!(" overflow {}", verdict.overflows);
+        }
+        self.line(format!("{line} mode {mode} length {length}"));
     }
 
     fn query(&mut self) {
@@ -142,16 +148,6 @@ fn hashes() {
     assert_eq!(hash(b"foobar"), 0xBF9C_F968);
 }
 
-/// A folder with these two files.
-fn folder(name: &str, cases: &str, due: &str) -> PathBuf {
-    let folder = Path::new(env!("CARGO_TARGET_TMPDIR")).join(name);
-    let _ = fs::remove_dir_all(&folder);
-    fs::create_dir_all(&folder).unwrap();
-    fs::write(folder.join("x.cases"), cases).unwrap();
-    fs::write(folder.join("x.due"), due).unwrap();
-    folder
-}
-
 const SMALL: &str = "\
 paper p
   bytes 41 42
@@ -159,6 +155,7 @@ paper p
 paper q from p
   cut 1
 case one
+  load q
   load q
   write buffer 3 start 258
 case two
@@ -177,6 +174,7 @@ case two
 const SMALL_DUE: &str = "\
 case one
   load 1 0 0 0 mode 0 length 0
+  load 0 1 2 3 overflow 4 mode 5 length 6
   write 18 0 0 0 kept
 case two
   query 18 0 0 0 signal 0 green 00 mode 3
@@ -194,7 +192,7 @@ case two
 fn small_stream() {
     let folder = folder("stream-small", SMALL, SMALL_DUE);
     let head = b"HD\0\0\0\x01\0\0\0";
-    let mut due = b"CL\0\0\0\x01HW\0\0\0\x03\0\0\0\0\0\0\x01\x02".to_vec();
+    let mut due = b"CL\0\0\0\x01HL\0\0\0\x01HW\0\0\0\x03\0\0\0\0\0\0\x01\x02".to_vec();
     due.extend(b"CFS\0\0\0\x01H\0\0\0\0\0\0\0\x01\x09S\0\0\0\x0D");
     due.extend(head);
     due.extend(b"ABZZ\0\0\0\x01\0\0\0\x02\x03");
@@ -205,7 +203,8 @@ fn small_stream() {
     assert_eq!(stream(&folder).unwrap(), due);
     let (kept, held) = (hash(&[3, 10, 17]), hash(b"H"));
     let text = format!(
-        "case 0\nload 1 0 0 0 mode 0 length 0\nwrite 18 0 0 0 sum {kept}\n\
+        "case 0\nload 1 0 0 0 mode 0 length 0\nload 0 1 2 3 overflow 4 mode 5 length 6\n\
+         write 18 0 0 0 sum {kept}\n\
          case 1\nquery 18 0 0 0 signal 0 green 0 mode 3\nquery 0 1 2 3 signal 4 green 254 mode 5\n\
          poll 21 7 2 3 signal 15 green 253 mode 255\npoll 18 0 0 0 signal 0 green 0 mode 3\n\
          poll 20 1 0 0 signal 0 green 0 mode 0\n\

@@ -8,14 +8,14 @@ use Rattle.certificate.specs.Layout.{maxLinks}
 use Rattle.judging.specs.Asking.{queueAt}
 use Rattle.packed_state.specs.State.{quadAt}
 use Rattle.held_state.specs.declared.Display.{Display}
-use Rattle.answer_words.specs.Words.{displayWord, reportWord, DisplayFits, LoadFits, DisplayParts, ReportParts, queueSize, queuesIn}
+use Rattle.answer_words.specs.Words.{displayWord, verdictWord, DisplayFits, LoadFits, DisplayParts, VerdictParts, queueSize, queuesIn}
 
 -- parts that fit are read back from the number
 abbrev pub DisplayReadsBack : Type 0
 DisplayReadsBack = (d : Display) → DisplayFits d → DisplayParts (displayWord d) d
 
-abbrev pub ReportReadsBack : Type 0
-ReportReadsBack = (r : Report) → LoadFits r → ReportParts (reportWord r) r
+abbrev pub VerdictReadsBack : Type 0
+VerdictReadsBack = (r : Report) (overflows : ℕ) → LoadFits r overflows → VerdictParts (verdictWord r overflows) r overflows
 
 -- the bytes of n queues are n queues, each the number of its four bytes
 abbrev pub QueuesAre : Type 0

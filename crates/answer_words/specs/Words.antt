@@ -18,9 +18,10 @@ unfoldable pub displayWord : Display → ℕ
 displayWord d =
     d .report .number + 256 * d .report .a + 65536 * d .report .count + 16777216 * d .signal + 4294967296 * d .green
 
--- of a load: eight bits for the number, 16 for A, twelve for B, 28 for the count
-unfoldable pub reportWord : Report → ℕ
-reportWord r = r .number + 256 * r .a + 16777216 * r .b + 68719476736 * r .count
+-- of a load: eight bits for the number, 16 for A, twelve for B, 28 for the count. An acceptance has no places; where A stands, it has the number
+-- of entries that may turn arrivals away, which is 0 in a refusal
+unfoldable pub verdictWord : Report → ℕ → ℕ
+verdictWord r overflows = r .number + 256 * (r .a + overflows) + 16777216 * r .b + 68719476736 * r .count
 
 -- the parts of a query's or a poll's number, by division
 pub record DisplayParts (w : ℕ) (d : Display) : Type 0 where
@@ -33,9 +34,10 @@ pub record DisplayParts (w : ℕ) (d : Display) : Type 0 where
   pub alone : d .report .b ≡ 0
 
 -- the parts of a load's
-pub record ReportParts (w : ℕ) (r : Report) : Type 0 where
+pub record VerdictParts (w : ℕ) (r : Report) (overflows : ℕ) : Type 0 where
   pub number : w % 256 ≡ r .number
-  pub place-a : w / 256 % 65536 ≡ r .a
+  pub place-a : (r .number ≡ 0 → ⊥) → w / 256 % 65536 ≡ r .a
+  pub overflow : r .number ≡ 0 → w / 256 % 65536 ≡ overflows
   pub place-b : w / 16777216 % 4096 ≡ r .b
   pub count : w / 68719476736 ≡ r .count
 
@@ -48,12 +50,15 @@ pub record DisplayFits (d : Display) : Type 0 where
   pub signal : d .signal < 256
   pub green : d .green < 256
 
--- a report whose parts fit a load's number
-pub record LoadFits (r : Report) : Type 0 where
+-- a report and a number of entries that fit a load's number
+pub record LoadFits (r : Report) (overflows : ℕ) : Type 0 where
   pub number : r .number < 256
-  pub place-a : r .a < 65536
+  pub place-a : r .a + overflows < 65536
   pub place-b : r .b < 4096
   pub count : r .count < 268435456
+  -- an acceptance has no place A, a refusal no number of entries
+  pub accepted : r .number ≡ 0 → r .a ≡ 0
+  pub refused : (r .number ≡ 0 → ⊥) → overflows ≡ 0
 
 -- the bytes of a queue
 abbrev pub queueSize : ℕ

@@ -1,10 +1,10 @@
 // How answers and queues cross to C: an answer is one number of 64 bits, a queue four bytes.
 ghost use mathlib.Core.Path.{_≡_};
-ghost use Rattle.answer_words.specs.Words.{displayWord, reportWord, LoadFits, QueuesRead};
-use certificate::Report;
+ghost use Rattle.answer_words.specs.Words.{displayWord, verdictWord, LoadFits, QueuesRead};
 use certificate::limits;
 use held_state::Display;
 use octets::numbers;
+use verdict::Verdict;
 
 // The bytes of a queue.
 const QUEUE_SIZE: usize = 4;
@@ -23,12 +23,13 @@ pub fn display_word(d: Display) -> u64
 }
 
 // The number of a load's answer.
-pub fn report_word(r: Report) -> u64
-    requires { ⌜ LoadFits r ⌝ }
-    ensures { λ w. ⌜ w ≡ reportWord r ⌝ }
+pub fn verdict_word(v: Verdict) -> u64
+    requires { ⌜ LoadFits (v .report) (v .overflows) ⌝ }
+    ensures { λ w. ⌜ w ≡ verdictWord (v .report) (v .overflows) ⌝ }
 {
+    let r = v.report;
     let word = numbers::wide(r.number)
-        + 256 * numbers::wide_quad(r.a)
+        + 256 * (numbers::wide_quad(r.a) + numbers::wide_quad(v.overflows))
         + 16777216 * numbers::wide_quad(r.b)
         + 68719476736 * numbers::wide_quad(r.count);
     word as u64

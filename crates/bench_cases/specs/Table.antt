@@ -2,7 +2,7 @@
 use Prim.Native.Nat.{ℕ, _*_}
 use mathlib.Core.List.{List, [], _∷_, List·Memᴰ}
 use mathlib.Core.Path.{_≡_}
-use mathlib.Core.Bool.{cond}
+use mathlib.Core.Bool.{Bool, true, false, cond}
 use lib.ListN.{getD}
 use lib.Dec.{eqb}
 use Rattle.certificate.specs.declared.Report.{Report}
@@ -11,8 +11,9 @@ use Rattle.certificate.specs.Layout.{cellOf}
 use Rattle.network.specs.Network.{networkOf, limitOf}
 use Rattle.network.specs.Flow.{next}
 use Rattle.network.specs.Conditions.{screeningOf}
-use Rattle.grid.specs.Successors.{imageLow, imageHigh}
+use Rattle.grid.specs.Successors.{imageLow, imageHigh, imageOver}
 use Rattle.judging.specs.Verdict.{verdictOf}
+use Rattle.judging.specs.Overflow.{overflowsOf}
 use Rattle.controller.specs.declared.Shown.{Shown}
 use Rattle.controller.specs.State.{holding}
 use Rattle.controller.specs.Query.{entryAsked, queryOf}
@@ -22,11 +23,13 @@ use Rattle.bench_cases.specs.Papers.{paperOne, paperTwo, paperThree, pap
 pub data Question : Type 0 where
   -- its verdict
   verdict : List ℕ → Question
+  -- how many of its entries may turn arrivals away
+  overflows : List ℕ → Question
   -- its tests before 12
   screening : List ℕ → Question
   -- the next queue of a link under signal 0: the scale, the queues and the arrivals over it, the link
   nextQueue : List ℕ → ℕ → List ℕ → List ℕ → ℕ → Question
-  -- the ends of a link's image under signal 0 and arrival box 0: the cell, the link
+  -- a link's image under signal 0 and arrival box 0: the cell, the link
   image : List ℕ → ℕ → ℕ → Question
   -- a query of the state that holds it, in mode 0: the scale, the queues
   query : List ℕ → ℕ → List ℕ → Question
@@ -36,8 +39,10 @@ pub data Answer : Type 0 where
   report : Report → Answer
   -- a next queue, over 10,000 times the scale
   queue : ℕ → Answer
-  -- the ends of an image, in ten thousandths
-  ends : ℕ → ℕ → Answer
+  -- the ends of an image, in ten thousandths, and whether the next queue, not cut at cap, exceeds cap
+  ends : ℕ → ℕ → Bool → Answer
+  -- a number of entries
+  entries : ℕ → Answer
   -- a query's signal and green byte, and the cell of the entry that it goes by
   shows : ℕ → ℕ → ℕ → Answer
 
@@ -48,10 +53,11 @@ shownOrRefusal shown c = cond (eqb (shown .report .number) 0) (shows (shown .sig
 -- the definitions' answer
 unfoldable pub answer : Question → Answer
 answer (verdict s) = report (verdictOf s)
+answer (overflows s) = entries (overflowsOf s)
 answer (screening s) = report (screeningOf s)
 answer (nextQueue s scale queues arrivals l) =
     queue (next (networkOf s) (limitOf s 0) scale (λ k. getD queues k 0) (λ k. getD arrivals k 0) l)
-answer (image s c l) = ends (imageLow s (limitOf s 0) 0 c l) (imageHigh s (limitOf s 0) 0 c l)
+answer (image s c l) = ends (imageLow s (limitOf s 0) 0 c l) (imageHigh s (limitOf s 0) 0 c l) (imageOver s (limitOf s 0) 0 c l)
 -- L has one signal for all cells, so the row also asks which entry the query goes by, and takes its cell
 answer (query s scale queues) =
     shownOrRefusal (queryOf (holding s) queues scale) (cellOf s (entryAsked (holding s) queues scale))
@@ -65,8 +71,9 @@ row q a = record { asks = q; due = a }
 
 unfoldable pub rows : List Row
 rows =
-    -- P1 L: accepted, 4
+    -- P1 L: accepted, 4; no entry may turn arrivals away
     row (verdict paperOne) (report (result 0 0 0 4))
+    ∷ row (overflows paperOne) (entries 0)
     -- P2 15, entry 1, cell 1, count 3
     ∷ row (verdict paperTwo) (report (result 15 1 1 3))
     -- P3 13, entry 1, count 1
@@ -80,6 +87,9 @@ rows =
     ∷ row (nextQueue (twoLinks 33 34) 1 (10 ∷ 20 ∷ []) (0 ∷ 0 ∷ []) 1) (queue 222440)
     -- P7 next 10, from 9.5 and 2 as 19 and 4 over scale 2
     ∷ row (nextQueue redLink 2 (19 ∷ []) (4 ∷ []) 0) (queue (20000 * 10))
+    -- its image is 2 to 10; 10 and 2 exceed cap where they are not cut, so its one entry may turn arrivals away
+    ∷ row (image redLink 0 0) (ends 20000 100000 true)
+    ∷ row (overflows redLink) (entries 1)
     -- P8 pull 34 holds, 33 gives 11
     ∷ row (screening (twoLinks 33 34)) (report fine)
     ∷ row (screening (twoLinks 33 33)) (report (refusal 11 0))
@@ -91,8 +101,8 @@ rows =
     ∷ row (query paperOne 2 (10 ∷ [])) (shows 0 0x01 1)
     ∷ row (query paperOne 2 (20 ∷ [])) (shows 0 0x01 2)
     ∷ row (query paperOne 2 (21 ∷ [])) (report (refusal 16 0))
-    -- P11 link 1's image is 20 to 24.23
-    ∷ row (image fork 9 1) (ends 200000 242300)
+    -- P11 link 1's image is 20 to 24.23, below its cap of 40
+    ∷ row (image fork 9 1) (ends 200000 242300 false)
     ∷ []
 
 -- the theorem about all rows: every row's question is answered as due (proved in proofs/Rows.antt)

@@ -1,13 +1,14 @@
 -- Laws of the loops of specs/Loops.antt. Assumes nothing.
 use Prim.Native.Nat.{ℕ, zero, suc, _+_, _*_, _-_, _≤_, _<_}
-use mathlib.Core.Bool.{Bool, true, false, _&&_, false≢true}
+use mathlib.Core.Bool.{Bool, true, false, _&&_, _||_, false≢true}
 use mathlib.Core.Path.{_≡_, refl, sym, ap, _∙_}
-use mathlib.Core.Logic.{⊎-elim}
+use mathlib.Core.Logic.{_⊎_, inl, inr, ⊎-elim}
 use native.Mathlib.Nat.{eq-or-lt-of-le, add-mul}
+use native.Mathlib.Numerals.{add-one}
 use native.Mathlib.Omega.{arith}
 use borrow.Author.Tests.{leb-true, leb-false}
 use lib.Dec.{leb}
-use Rattle.certificate.specs.Loops.{pick, sumTo, everyOf, everyFrom, every, firstOfThese, findFrom, find, rounds, loopFrom}
+use Rattle.certificate.specs.Loops.{pick, sumTo, anyTo, everyOf, everyFrom, every, firstOfThese, findFrom, find, rounds, loopFrom}
 use Rattle.certificate.proofs.Tests.{and-both, both-and}
 
 -- one round of a loop that carries a state, and its end
@@ -19,6 +20,49 @@ module _ {S R : Type 0} where
   pub loop-end : (round : ℕ → S → (S → R) → R) (done : S → R) (n i : ℕ) (s : S) → n ≤ i → loopFrom round done n i s ≡ done s
   unfolding loopFrom rounds
   loop-end round done n i s h = let e : n - i ≡ 0 = omega arith in rw e
+
+-- some index passes the test: which one, and the other way
+or-some : (p q : Bool) → (p || q) ≡ true → (p ≡ true) ⊎ (q ≡ true)
+or-some true q e = inl refl
+or-some false q e = inr e
+
+pub any-some : (n : ℕ) (p : ℕ → Bool) → anyTo n p ≡ true → (k : ℕ) × (k < n) × (p k ≡ true)
+unfolding anyTo
+any-some zero p e = absurd (false≢true e)
+any-some (suc n) p e =
+    ⊎-elim
+    (λ (h : anyTo n p ≡ true). let (k, lt, is) = any-some n p h in (k, omega arith, is))
+    (λ (h : p n ≡ true). (n, omega arith, h))
+    (or-some (anyTo n p) (p n) e)
+
+or-right : (p : Bool) → (p || true) ≡ true
+or-right true = refl
+or-right false = refl
+
+pub some-any : (n : ℕ) (p : ℕ → Bool) (k : ℕ) → k < n → p k ≡ true → anyTo n p ≡ true
+unfolding anyTo
+some-any zero p k lt e = absurd (omega arith)
+some-any (suc n) p k lt e =
+    let le : k ≤ n = omega arith in
+    ⊎-elim
+    (λ (last : k ≡ n). rw (← last, e) (or-right (anyTo k p)))
+    (λ (h : k < n). rw (some-any n p k h e))
+    (eq-or-lt-of-le le)
+
+-- two tests that agree below n
+pub any-same : (n : ℕ) (p q : ℕ → Bool) → ((k : ℕ) → k < n → p k ≡ q k) → anyTo n p ≡ anyTo n q
+unfolding anyTo
+any-same zero p q h = refl
+any-same (suc n) p q h = rw (any-same n p q (λ k lt. h k (omega arith)), h n (omega arith))
+
+-- of none, and of one index more
+pub any-none : (p : ℕ → Bool) → false ≡ anyTo 0 p
+unfolding anyTo
+any-none p = refl
+
+pub any-more : (p : ℕ → Bool) (n : ℕ) {r v : Bool} → r ≡ anyTo n p → v ≡ p n → (r || v) ≡ anyTo (n + 1) p
+unfolding anyTo
+any-more p n e f = rw (add-one, e, f)
 
 -- every index passes the test, one by one
 of-every : (p : ℕ → Bool) (m i k : ℕ) → everyOf p m i ≡ true → i ≤ k → k < i + m → p k ≡ true

@@ -1,6 +1,6 @@
--- Sums, tests of every index and counted loops, by which the other definitions are written.
+-- Sums, tests of some and of every index, and counted loops, by which the other definitions are written.
 use Prim.Native.Nat.{ℕ, zero, suc, _+_, _-_}
-use mathlib.Core.Bool.{Bool, true, false, _&&_}
+use mathlib.Core.Bool.{Bool, true, false, _&&_, _||_}
 
 -- a where the test holds, else b
 abbrev pub pick : Bool → ℕ → ℕ → ℕ
@@ -11,6 +11,11 @@ pick false a b = b
 unfoldable pub sumTo : ℕ → (ℕ → ℕ) → ℕ
 sumTo zero f = 0
 sumTo (suc n) f = sumTo n f + f n
+
+-- the test holds of some index below n
+unfoldable pub anyTo : ℕ → (ℕ → Bool) → Bool
+anyTo zero p = false
+anyTo (suc n) p = anyTo n p || p n
 
 -- the test holds of k indices from i on
 unfoldable pub everyOf : (ℕ → Bool) → ℕ → ℕ → Bool

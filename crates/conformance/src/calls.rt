@@ -1,5 +1,5 @@
 // The calls under test: each is made on what the stream gave, and its line of results is printed:
-//   load NUMBER A B COUNT mode M length N
+//   load NUMBER A B COUNT mode M length N, with ` overflow E` behind the count of an acceptance
 //   query NUMBER A B COUNT signal S green G mode M
 //   poll NUMBER A B COUNT signal S green G mode M
 //   write NUMBER A B COUNT sum H
@@ -12,7 +12,11 @@ use controller::Controller;
 pub fn do_load(state: Controller, bytes: &[u8]) -> Controller {
     let loaded = state.load(bytes);
     let next = loaded.state;
-    case_output::report(b"load", loaded.report);
+    let report = loaded.report;
+    case_output::report(b"load", report);
+    if report.number == 0 {
+        case_output::medium(b" overflow ", loaded.overflows);
+    }
     case_output::small(b" mode ", next.mode);
     case_output::field(b" length ", next.len as u64);
     case_output::text(b"\n");

@@ -9,6 +9,7 @@ use Rattle.certificate.proofs.Size.{readable-fits}
 use Rattle.network.proofs.Screening.{screening-is-plain}
 use Rattle.judging.specs.Verdict.{verdictOf}
 use Rattle.judging.proofs.Verdicts.{accepted-is-plain}
+use Rattle.judging.proofs.Overflows.{accepted-overflows, refused-overflows}
 use Rattle.controller.specs.declared.Controller.{Controller}
 use Rattle.controller.specs.State.{holding, inMode, stored, isCertificate, loadOf}
 use Rattle.controller.specs.Laws.{HoldsCertificate, HoldsIsPlain, FreshHoldsNone, AcceptedHolds, LoadAccepted, LoadRefused}
@@ -36,8 +37,8 @@ accepted-holds s ok =
 
 pub load-accepted : LoadAccepted
 unfolding loadOf
-load-accepted c s ok = rw (eq-eqb (verdictOf s .number) 0 ok)
+load-accepted c s ok = rw (accepted-overflows s ok, eq-eqb (verdictOf s .number) 0 ok)
 
 pub load-refused : LoadRefused
 unfolding loadOf
-load-refused c s bad = rw (ne-eqb (verdictOf s .number) 0 bad)
+load-refused c s bad = rw (refused-overflows s bad, ne-eqb (verdictOf s .number) 0 bad)

@@ -6,11 +6,12 @@ use mathlib.Core.Logic.{_↔_, _⊎_}
 use mathlib.Core.Path.{_≡_}
 use lib.ListN.{length, take, drop, getD}
 use Rattle.certificate.specs.Checks.{result, refusal, fine}
-use Rattle.certificate.specs.Layout.{maxLength, linksOf, signalsOf, modesOf, greenByteOf, signalOf, nextModeOf}
+use Rattle.certificate.specs.Layout.{maxLength, linksOf, signalsOf, modesOf, entriesOf, greenByteOf, signalOf, nextModeOf}
 use Rattle.network.specs.Network.{networkOf, limitOf}
 use Rattle.network.specs.Flow.{next}
 use Rattle.network.specs.Laws.{Screened}
 use Rattle.judging.specs.Verdict.{verdictOf}
+use Rattle.judging.specs.Overflow.{overflowsBefore}
 use Rattle.judging.specs.Conditions.{Lists}
 use Rattle.judging.specs.Asking.{queueAt, cellAsked, Proper}
 use Rattle.runs.specs.Fractions.{Fraction}
@@ -43,11 +44,12 @@ AcceptedHolds = (s : List ℕ) → verdictOf s .number ≡ 0 → HoldsCertificat
 
 abbrev pub LoadAccepted : Type 0
 LoadAccepted =
-    (c : Controller) (s : List ℕ) → verdictOf s .number ≡ 0 → loadOf c s ≡ record { report = verdictOf s; state = holding s }
+    (c : Controller) (s : List ℕ) → verdictOf s .number ≡ 0
+    → loadOf c s ≡ record { report = verdictOf s; overflows = overflowsBefore s (entriesOf s); state = holding s }
 
 abbrev pub LoadRefused : Type 0
 LoadRefused =
-    (c : Controller) (s : List ℕ) → (verdictOf s .number ≡ 0 → ⊥) → loadOf c s ≡ record { report = verdictOf s; state = c }
+    (c : Controller) (s : List ℕ) → (verdictOf s .number ≡ 0 → ⊥) → loadOf c s ≡ record { report = verdictOf s; overflows = 0; state = c }
 
 -- Queries. The tests come in the order 18, 16, 19.
 
@@ -164,11 +166,12 @@ afterQueries c (q ∷ qs) = afterQueries (queryOf c (q .queues) (q .scale) .stat
 abbrev pub QueriesKeep : Type 0
 QueriesKeep = (c : Controller) (qs : List Query) → afterQueries c qs ≡ inMode c (afterQueries c qs .mode)
 
--- what was written of s by state w is s, and loads as accepted from any state d, with the same count
+-- what was written of s by state w is s, and loads as accepted from any state d, with the same numbers
 pub record WritesBack (s : List ℕ) (w d : Controller) (buffer : List ℕ) (start : ℕ) : Type 0 where
   pub size : writeReport w buffer start .a ≡ length s
   pub bytes : take (length s) (drop start (writeBuffer w buffer start)) ≡ s
-  pub again : loadOf d (take (length s) (drop start (writeBuffer w buffer start))) ≡ record { report = verdictOf s; state = holding s }
+  pub again : loadOf d (take (length s) (drop start (writeBuffer w buffer start)))
+      ≡ record { report = verdictOf s; overflows = overflowsBefore s (entriesOf s); state = holding s }
 
 -- round trip: an accepted load, any queries since, a write that succeeds
 abbrev pub RoundTrip : Type 0

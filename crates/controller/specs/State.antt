@@ -7,6 +7,7 @@ use lib.Dec.{leb, eqb}
 use Rattle.certificate.specs.Layout.{maxLength}
 use Rattle.network.specs.Conditions.{screeningOf}
 use Rattle.judging.specs.Verdict.{verdictOf}
+use Rattle.judging.specs.Overflow.{overflowsOf}
 use Rattle.controller.specs.declared.Controller.{Controller}
 use Rattle.controller.specs.declared.Loaded.{Loaded}
 
@@ -34,6 +35,6 @@ isCertificate bytes n = leb n maxLength && eqb (screeningOf (take n bytes) .numb
 abbrev pub holdsCertificate : Controller → Bool
 holdsCertificate c = isCertificate (c .bytes) (c .len)
 
--- an accepted load stores its own copy and sets mode 0; a refused one changes nothing
+-- an accepted load stores its own copy and sets mode 0; a refused one changes nothing. An acceptance has a second number beside its count
 unfoldable pub loadOf : Controller → List ℕ → Loaded
-loadOf c s = record { report = verdictOf s; state = cond (eqb (verdictOf s .number) 0) (holding s) c }
+loadOf c s = record { report = verdictOf s; overflows = overflowsOf s; state = cond (eqb (verdictOf s .number) 0) (holding s) c }

@@ -61,9 +61,10 @@ impl Controller {
     }
 }
 
-// What a load answers: its report and the next state.
+// What a load answers: its report, in an acceptance the number of entries that may turn arrivals away, and the next state.
 pub struct Loaded {
     pub report: Report,
+    pub overflows: u32,
     pub state: Controller,
 }
 

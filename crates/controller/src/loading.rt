@@ -28,14 +28,21 @@ impl Controller {
     pub fn load(self, s: &[u8]) -> Loaded
         ensures { λ r. ⌜ (r ≡ loadOf self (now (s .entry))) × (r .report .number ≡ 0 → RunClaim (now (s .entry))) ⌝ }
     {
-        let report = verdict::judge(s);
+        let verdict = verdict::judge(s);
+        let report = verdict.report;
+        let overflows = verdict.overflows;
         if report.number != 0 {
             return Loaded {
                 report,
+                overflows,
                 state: self,
             };
         }
         let state = Controller::holding(s);
-        Loaded { report, state }
+        Loaded {
+            report,
+            overflows,
+            state,
+        }
     }
 }

@@ -5,3 +5,4 @@ pub mod Successors
 pub mod WholeRuns
 pub mod Places
 pub mod SuccessorRuns
+pub mod Overflowing

@@ -1,6 +1,7 @@
 -- The cells in the ranges that meet an entry's image are its successors, and their runs are those of the ranges. Assumes nothing.
 use Prim.Native.Nat.{ℕ}
 use mathlib.Core.List.{List}
+use mathlib.Core.Bool.{Bool}
 use mathlib.Core.Path.{_≡_, _∙_}
 use native.Mathlib.Omega.{arith}
 use Rattle.certificate.specs.Layout.{cellOf}
@@ -13,10 +14,10 @@ use Rattle.judging.specs.EntryTests.{follows}
 use Rattle.entry_search.specs.Search.{EntryImage, BoxRuns}
 
 -- so the cells in the ranges that meet it are the successors, and the runs of these cells are the runs of successors
-pub runs-are : (s : List ℕ) → Screened s → (e b : ℕ) (from to first last starts : List ℕ) (n size : ℕ) → EntryImage s e b from to
+pub runs-are : (s : List ℕ) → Screened s → (e b : ℕ) (from to first last starts : List ℕ) (over : List Bool) (n size : ℕ) → EntryImage s e b from to over
     → RangesOf s from to first last → RunsOf s first last starts n size → BoxRuns s e b starts n size
 unfolding follows
-runs-are s S e b from to first last starts n size I R A =
+runs-are s S e b from to first last starts over n size I R A =
     record {
       most = A .most;
       some = λ lt. omega (arith, A .run 0 lt .least);

@@ -4,20 +4,23 @@ use mathlib.Core.List.{List}
 use mathlib.Core.Bool.{Bool, true, false, _&&_}
 use mathlib.Core.Path.{_≡_}
 use lib.Dec.{eqb, leb}
+use lib.ListN.{getD}
 use Rattle.certificate.specs.declared.Report.{Report}
 use Rattle.certificate.specs.Loops.{pick, everyFrom, loopFrom}
 use Rattle.certificate.specs.Layout.{linksOf, cellsOf, boxesOf, cellOf}
 use Rattle.network.specs.Network.{entryLimit}
-use Rattle.grid.specs.Successors.{imageLow, imageHigh}
+use Rattle.grid.specs.Successors.{imageLow, imageHigh, imageOver}
 use Rattle.grid.specs.Laws.{ImageOf}
 use Rattle.octets.specs.Tables.{Holds}
 use Rattle.successors.specs.Ranges.{startAt}
 use Rattle.judging.specs.EntryTests.{follows, successorFault, cellRound, boxRound, accepted}
 
--- the image of entry e's cell under its signal and box b: low and high are its ends, and it is the smallest box (grid `ImageOf`)
-pub record EntryImage (s : List ℕ) (e b : ℕ) (low high : List ℕ) : Type 0 where
+-- the image of entry e's cell under its signal and box b: low and high are its ends, over says which links exceed cap where they are not cut,
+-- and it is the smallest box (grid `ImageOf`)
+pub record EntryImage (s : List ℕ) (e b : ℕ) (low high : List ℕ) (over : List Bool) : Type 0 where
   pub low-is : Holds (linksOf s) (imageLow s (entryLimit s e) b (cellOf s e)) low
   pub high-is : Holds (linksOf s) (imageHigh s (entryLimit s e) b (cellOf s e)) high
+  pub over-is : (l : ℕ) → l < linksOf s → getD over l false ≡ imageOver s (entryLimit s e) b (cellOf s e) l
   pub smallest : ImageOf s (entryLimit s e) b (cellOf s e)
 
 -- the n runs of successors of entry e under box b: they start where the list says, ascending, all of that size, and no other cell follows

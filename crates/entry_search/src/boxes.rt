@@ -1,9 +1,13 @@
 // The successors of an entry under one arrival box, as runs of cells.
 ghost use mathlib.Core.Path.{_≡_};
 ghost use Prim.Native.Nat.{ℕ, _+_, _*_, _<_, _≤_, min};
+ghost use mathlib.Core.Bool.{false};
+ghost use lib.Dec.{ltb};
 ghost use lib.ListN.{getD, length};
 ghost use Rattle.certificate.specs.Layout.{maxBoxes, maxCells, maxLinks, linksOf, boxesOf, entriesOf};
+ghost use Rattle.certificate.specs.Loops.{anyTo};
 ghost use Rattle.network.specs.Laws.{Screened};
+ghost use Rattle.judging.specs.Overflow.{boxOverflows};
 ghost use Rattle.cell_tables.specs.Tables.{GridOf, EdgesOf};
 ghost use Rattle.entry_setup.specs.Tables.{arrivalRow, CapsOf, ArrivalsOf, EntryEnds, IsTask};
 ghost use Rattle.entry_search.specs.Search.{EntryImage, BoxRuns};
@@ -16,8 +20,8 @@ use images::ends;
 use successors::ranges;
 use successors::starts;
 
-// The low or the high ends with the arrivals of a box, which stand at every second place from `at` on: at most cap.
-fn ends_under(
+// The low ends with the arrivals of a box, which stand at every second place from `at` on: at most cap.
+fn low_ends_under(
     links: usize,
     caps: &[usize; limits::MAX_LINKS],
     before: &[usize; limits::MAX_LINKS],
@@ -33,8 +37,33 @@ fn ends_under(
     }
 }
 
-// The image of entry e's cell under its signal and box b: the smallest closed box that holds all exact next queues. `low` and `high`
-// are its ends before arrivals; `from` and `to` receive its ends.
+// The high ends with the arrivals of a box, and for each link whether its end, not cut at cap, exceeds cap; the answer is whether some
+// link's does.
+fn high_ends_under(
+    links: usize,
+    caps: &[usize; limits::MAX_LINKS],
+    before: &[usize; limits::MAX_LINKS],
+    arrivals: &[usize; amounts::ARRIVALS],
+    at: usize,
+    ends: &mut [usize; limits::MAX_LINKS],
+    over: &mut [bool; limits::MAX_LINKS],
+) -> bool
+    requires { ⌜ (links ≤ maxLinks) × (at + 2 * maxLinks ≤ maxBoxes * arrivalRow + 1) × ((l : ℕ) → l < links → (getD (now before) l 0 ≤ endBound) × (getD (now arrivals) (at + 2 * l) 0 ≤ endBound)) × (length (now ends) ≡ maxLinks) × (length (now over) ≡ maxLinks) ⌝ }
+    ensures { λ r. ⌜ (length (now (ends .exit)) ≡ maxLinks) × ((l : ℕ) → l < links → getD (now (ends .exit)) l 0 ≡ min (getD (now (caps .entry)) l 0) (getD (now (before .entry)) l 0 + getD (now (arrivals .entry)) (at + 2 * l) 0)) × (length (now (over .exit)) ≡ maxLinks) × ((l : ℕ) → l < links → getD (now (over .exit)) l false ≡ ltb (getD (now (caps .entry)) l 0) (getD (now (before .entry)) l 0 + getD (now (arrivals .entry)) (at + 2 * l) 0)) × (r ≡ anyTo links (λ l. getD (now (over .exit)) l false)) ⌝ }
+{
+    let mut any = false;
+    for l in 0..links {
+        ends[l] = ends::end_of(caps[l], before[l], arrivals[at + 2 * l]);
+        let exceeds = ends::exceeds(caps[l], before[l], arrivals[at + 2 * l]);
+        over[l] = exceeds;
+        any = any | exceeds;
+    }
+    any
+}
+
+// The image of entry e's cell under its signal and box b: the smallest closed box that holds all exact next queues, and which of them
+// exceed cap where they are not cut. `low` and `high` are its ends before arrivals; `from` and `to` receive its ends, `over` the rest. The
+// answer is whether some link exceeds.
 fn image_of<'a>(
     s: &[u8],
     links: usize,
@@ -46,23 +75,32 @@ fn image_of<'a>(
     b: usize,
     from: &mut [usize; limits::MAX_LINKS],
     to: &mut [usize; limits::MAX_LINKS],
-)
-    requires { ⌜ Screened (now s) × (links ≡ linksOf (now s)) × CapsOf (now s) (now caps) × ArrivalsOf (now s) (now arrivals) × EntryEnds (now s) e (now low) (now high) × (e < entriesOf (now s)) × (b < boxesOf (now s)) × (length (now from) ≡ maxLinks) × (length (now to) ≡ maxLinks) ⌝ }
-    ensures { λ _. ⌜ EntryImage (now (s .entry)) e b (now (from .exit)) (now (to .exit)) × (length (now (from .exit)) ≡ maxLinks) × (length (now (to .exit)) ≡ maxLinks) ⌝ }
+    over: &mut [bool; limits::MAX_LINKS],
+) -> bool
+    requires { ⌜ Screened (now s) × (links ≡ linksOf (now s)) × CapsOf (now s) (now caps) × ArrivalsOf (now s) (now arrivals) × EntryEnds (now s) e (now low) (now high) × (e < entriesOf (now s)) × (b < boxesOf (now s)) × (length (now from) ≡ maxLinks) × (length (now to) ≡ maxLinks) × (length (now over) ≡ maxLinks) ⌝ }
+    ensures { λ r. ⌜ EntryImage (now (s .entry)) e b (now (from .exit)) (now (to .exit)) (now (over .exit)) × (length (now (from .exit)) ≡ maxLinks) × (length (now (to .exit)) ≡ maxLinks) × (length (now (over .exit)) ≡ maxLinks) × (r ≡ boxOverflows (now (s .entry)) e b) ⌝ }
 {
-    ends_under(links, caps, low, arrivals, amounts::ARRIVAL_ROW * b, from);
-    ends_under(
+    low_ends_under(links, caps, low, arrivals, amounts::ARRIVAL_ROW * b, from);
+    high_ends_under(
         links,
         caps,
         high,
         arrivals,
         amounts::ARRIVAL_ROW * b + 1,
         to,
-    );
+        over,
+    )
 }
 
-// The runs of successors of an entry under box b: `runs` is filled with their starts. `low` and `high` are the ends of the entry's image
-// before arrivals.
+// What an arrival box gives: how many runs of successors there are, how many cells each has, and whether some link may exceed its cap.
+pub struct Reached {
+    pub count: usize,
+    pub size: usize,
+    pub over: bool,
+}
+
+// The runs of successors of an entry under box b, and whether some link may exceed its cap: `runs` is filled with the runs' starts.
+// `low` and `high` are the ends of the entry's image before arrivals.
 pub fn box_runs<'a, 'b>(
     s: &[u8],
     task: Task,
@@ -76,13 +114,14 @@ pub fn box_runs<'a, 'b>(
     high: &'b [usize; limits::MAX_LINKS],
     b: usize,
     runs: &mut [u16],
-) -> starts::Runs
+) -> Reached
     requires { ⌜ Screened (now s) × GridOf (now s) (now counts) (now weights) links × CapsOf (now s) (now caps) × EdgesOf (now s) (now edges) × ArrivalsOf (now s) (now arrivals) × IsTask (now s) task × EntryEnds (now s) (task .entry) (now low) (now high) × (b < task .boxes) × (length (now runs) ≡ maxCells) ⌝ }
-    ensures { λ r. ⌜ (length (now (runs .exit)) ≡ maxCells) × BoxRuns (now (s .entry)) (task .entry) b (now (runs .exit)) (r .count) (r .size) ⌝ }
+    ensures { λ r. ⌜ (length (now (runs .exit)) ≡ maxCells) × BoxRuns (now (s .entry)) (task .entry) b (now (runs .exit)) (r .count) (r .size) × (r .over ≡ boxOverflows (now (s .entry)) (task .entry) b) ⌝ }
 {
     let mut from = [0usize; limits::MAX_LINKS];
     let mut to = [0usize; limits::MAX_LINKS];
-    image_of(
+    let mut over = [false; limits::MAX_LINKS];
+    let any = image_of(
         s,
         links,
         caps,
@@ -93,9 +132,15 @@ pub fn box_runs<'a, 'b>(
         b,
         &mut from,
         &mut to,
+        &mut over,
     );
     let mut first = [0usize; limits::MAX_LINKS];
     let mut last = [0usize; limits::MAX_LINKS];
     ranges::ranges_of(s, edges, counts, links, &from, &to, &mut first, &mut last);
-    starts::runs_of(s, counts, weights, &first, &last, links, task.cells, runs)
+    let found = starts::runs_of(s, counts, weights, &first, &last, links, task.cells, runs);
+    Reached {
+        count: found.count,
+        size: found.size,
+        over: any,
+    }
 }

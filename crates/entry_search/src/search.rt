@@ -4,6 +4,7 @@ ghost use Prim.Native.Nat.{_+_, _*_, _<_, _≤_};
 ghost use lib.ListN.{length};
 ghost use Rattle.rank_tables.specs.Index.{RanksOf};
 ghost use Rattle.judging.specs.EntryTests.{successorFault};
+ghost use Rattle.judging.specs.Overflow.{entryOverflows};
 ghost use Rattle.entry_setup.specs.Tables.{TablesOf, EntryEnds, IsTask};
 ghost use Rattle.certificate.specs.Loops.{pick};
 ghost use Rattle.entry_search.specs.Search.{boxesFrom, passes, passedWhole};
@@ -76,6 +77,12 @@ fn passed_whole(
     passed
 }
 
+// What the search of an entry gives: its report, and whether some link may exceed its cap in some box, where no successor is refused.
+pub struct Searched {
+    pub report: Report,
+    pub over: bool,
+}
+
 // The nested search of an entry: arrival boxes ascending and successor cells ascending, left by the label at the first unlisted
 // or not lower successor. Each lookup is counted, the failing one too; a long run of which every cell passes is counted as it is looked
 // up as a whole. `before` has the ends of the entry's image before arrivals, `count` is the lookups before it; `runs` is room for the
@@ -90,13 +97,14 @@ pub fn search_boxes(
     runs: &mut [u16],
     before: ends::Ends,
     count: u32,
-) -> Report
+) -> Searched
     requires { ⌜ TablesOf (now s) tables (now edges) (now arrivals) × RanksOf (now s) (now ranks) × IsTask (now s) task × EntryEnds (now s) (task .entry) (before .low) (before .high) × (count ≤ maxBoxes * maxCells * task .entry) × (length (now runs) ≡ maxCells) ⌝ }
-    ensures { λ r. ⌜ (r ≡ boxesFrom (now (s .entry)) (task .entry) 0 count) × (r .count ≤ maxBoxes * maxCells * (task .entry + 1)) × (length (now (runs .exit)) ≡ maxCells) ⌝ }
+    ensures { λ r. ⌜ (r .report ≡ boxesFrom (now (s .entry)) (task .entry) 0 count) × (r .report .count ≤ maxBoxes * maxCells * (task .entry + 1)) × (length (now (runs .exit)) ≡ maxCells) × (r .report .number ≡ 0 → r .over ≡ entryOverflows (now (s .entry)) (task .entry)) ⌝ }
 {
     let links = tables.links;
     let mut found = octets::accept();
     let mut total = count;
+    let mut over = false;
     'search: for b in 0..task.boxes {
         let r = boxes::box_runs(
             s,
@@ -112,6 +120,7 @@ pub fn search_boxes(
             b,
             runs,
         );
+        over = over | r.over;
         let n = r.count;
         let size = r.size;
         let mut looked: u32 = 0;
@@ -137,5 +146,8 @@ pub fn search_boxes(
         total += looked;
     }
     found.count = total;
-    found
+    Searched {
+        report: found,
+        over,
+    }
 }

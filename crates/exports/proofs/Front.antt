@@ -1,7 +1,7 @@
--- Stores at the front of a list that has room: four numbers, and two more behind them, then the rest. Assumes nothing.
-use Prim.Native.Nat.{ℕ, _≤_}
-use mathlib.Core.List.{List, [], _∷_}
-use mathlib.Core.Path.{_≡_, refl}
+-- Stores at the front of a list that has room: four numbers, and one or two more behind them, then the rest. Assumes nothing.
+use Prim.Native.Nat.{ℕ, suc, _≤_, _<_}
+use mathlib.Core.List.{List, [], _∷_, _++_}
+use mathlib.Core.Path.{_≡_, refl, ap}
 use native.Mathlib.Omega.{arith}
 use lib.ListN.{length, set, drop}
 
@@ -12,17 +12,18 @@ front (v ∷ w ∷ []) n a b count h = absurd (omega arith)
 front (v ∷ []) n a b count h = absurd (omega arith)
 front [] n a b count h = absurd (omega arith)
 
--- two more stores behind those four
-more : (out : List ℕ) (n a b count x y : ℕ) → 6 ≤ length out
-    → set (set (n ∷ a ∷ b ∷ count ∷ drop 4 out) 4 x) 5 y ≡ n ∷ a ∷ b ∷ count ∷ x ∷ y ∷ drop 6 out
-more (t ∷ u ∷ v ∷ w ∷ x' ∷ y' ∷ rest) n a b count x y h = refl
-more (t ∷ u ∷ v ∷ w ∷ x' ∷ []) n a b count x y h = absurd (omega arith)
-more (t ∷ u ∷ v ∷ w ∷ []) n a b count x y h = absurd (omega arith)
-more (t ∷ u ∷ v ∷ []) n a b count x y h = absurd (omega arith)
-more (t ∷ u ∷ []) n a b count x y h = absurd (omega arith)
-more (t ∷ []) n a b count x y h = absurd (omega arith)
-more [] n a b count x y h = absurd (omega arith)
+-- one more store behind those before it
+store : (before out : List ℕ) (x : ℕ) → length before < length out
+    → set (before ++ drop (length before) out) (length before) x ≡ before ++ (x ∷ drop (suc (length before)) out)
+store [] (v ∷ out) x h = refl
+store [] [] x h = absurd (omega arith)
+store (f ∷ before) (v ∷ out) x h = ap (λ (l : List ℕ). f ∷ l) (store before out x (omega arith))
+store (f ∷ before) [] x h = absurd (omega arith)
+
+pub five : (out four : List ℕ) (n a b count x : ℕ) → 5 ≤ length out → four ≡ n ∷ a ∷ b ∷ count ∷ drop 4 out
+    → set four 4 x ≡ n ∷ a ∷ b ∷ count ∷ x ∷ drop 5 out
+five out four n a b count x h e = rw e (store (n ∷ a ∷ b ∷ count ∷ []) out x h)
 
 pub six : (out four : List ℕ) (n a b count x y : ℕ) → 6 ≤ length out → four ≡ n ∷ a ∷ b ∷ count ∷ drop 4 out
     → set (set four 4 x) 5 y ≡ n ∷ a ∷ b ∷ count ∷ x ∷ y ∷ drop 6 out
-six out four n a b count x y h e = rw e (more out n a b count x y h)
+six out four n a b count x y h e = rw (five out four n a b count x (omega arith) e) (store (n ∷ a ∷ b ∷ count ∷ x ∷ []) out y h)

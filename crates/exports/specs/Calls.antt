@@ -7,8 +7,8 @@ use Rattle.controller.specs.State.{freshState, holding}
 use Rattle.controller.specs.Write.{writeReport, writeBuffer}
 use Rattle.listing_text.specs.Listing.{listReport, listBuffer}
 use Rattle.packed_state.specs.State.{heldIn, bytesAfter}
-use Rattle.held_state.specs.Held.{freshReport, loadReport, shownFor}
-use Rattle.exports.specs.Exported.{reportNumbers, shownNumbers, Called}
+use Rattle.held_state.specs.Held.{freshReport, loadReport, loadOverflows, shownFor}
+use Rattle.exports.specs.Exported.{reportNumbers, verdictNumbers, shownNumbers, Called}
 
 -- a listing: the buffer
 abbrev pub ListCall : List ℕ → List ℕ → List ℕ → List ℕ → List ℕ → ℕ → Type 0
@@ -22,7 +22,7 @@ FreshCall state state' r = (r ≡ freshReport state .number) × (state' ≡ byte
 -- a load: the state holds its own copy
 abbrev pub LoadCall : List ℕ → List ℕ → List ℕ → List ℕ → List ℕ → ℕ → Type 0
 LoadCall s state state' out out' r =
-    Called (reportNumbers (loadReport state s)) (bytesAfter (loadReport state s .number) (holding s) state) state state' out out' r
+    Called (verdictNumbers (loadReport state s) (loadOverflows state s)) (bytesAfter (loadReport state s .number) (holding s) state) state state' out out' r
 
 -- a query of the state that is held
 abbrev pub QueryCall : List ℕ → ℕ → List ℕ → List ℕ → List ℕ → List ℕ → ℕ → Type 0

@@ -10,6 +10,10 @@ use Rattle.controller.specs.declared.Shown.{Shown}
 abbrev pub reportNumbers : Report → List ℕ
 reportNumbers r = r .number ∷ r .a ∷ r .b ∷ r .count ∷ []
 
+-- the numbers of a verdict: those of its report, and how many entries may turn arrivals away
+abbrev pub verdictNumbers : Report → ℕ → List ℕ
+verdictNumbers r overflows = reportNumbers r ++ (overflows ∷ [])
+
 -- the numbers of a query's answer: those of its report, the signal, its green byte
 abbrev pub shownNumbers : Shown → List ℕ
 shownNumbers shown = reportNumbers (shown .report) ++ (shown .signal ∷ shown .green ∷ [])

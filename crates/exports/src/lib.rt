@@ -6,9 +6,11 @@ ghost use mathlib.Core.List.{[], _∷_, _++_};
 ghost use lib.ListN.{length, drop};
 ghost use Rattle.network.specs.Conditions.{screeningOf};
 ghost use Rattle.judging.specs.Verdict.{verdictOf};
-ghost use Rattle.exports.specs.Exported.{reportNumbers, Answers};
+ghost use Rattle.judging.specs.Overflow.{overflowsOf};
+ghost use Rattle.exports.specs.Exported.{reportNumbers, verdictNumbers, Answers};
 ghost use Rattle.exports.specs.Calls.{ListCall, FreshCall, LoadCall, QueryCall, WriteCall};
 use certificate::Report;
+use verdict::Verdict;
 
 // The four numbers of a report go to the front of `out`; the result is the report's number.
 fn put_report(report: Report, out: &mut [u32]) -> u32
@@ -20,6 +22,16 @@ fn put_report(report: Report, out: &mut [u32]) -> u32
     out[1] = report.a;
     out[2] = report.b;
     out[3] = report.count;
+    number
+}
+
+// A verdict's report and the number of entries that may turn arrivals away go to the front of `out`; the result is the report's number.
+fn put_verdict(verdict: Verdict, out: &mut [u32]) -> u32
+    requires { ⌜ 5 ≤ length (now out) ⌝ }
+    ensures { λ r. ⌜ (r ≡ verdict .report .number) × (now (out .exit) ≡ verdictNumbers (verdict .report) (verdict .overflows) ++ drop 5 (now (out .entry))) ⌝ }
+{
+    let number = put_report(verdict.report, out);
+    out[4] = verdict.overflows;
     number
 }
 
@@ -46,16 +58,16 @@ pub extern "C" fn dergvost_screen(s: &[u8], out: &mut [u32]) -> u32
     put_report(found.report, out)
 }
 
-// The verdict of any bytes.
+// The verdict of any bytes, with the number of entries that may turn arrivals away.
 #[no_mangle]
 pub extern "C" fn dergvost_judge(s: &[u8], out: &mut [u32]) -> u32
-    ensures { λ r. ⌜ Answers (reportNumbers (verdictOf (now (s .entry)))) (now (out .entry)) (now (out .exit)) r ⌝ }
+    ensures { λ r. ⌜ Answers (verdictNumbers (verdictOf (now (s .entry))) (overflowsOf (now (s .entry)))) (now (out .entry)) (now (out .exit)) r ⌝ }
 {
-    if out.len() < 4 {
+    if out.len() < 5 {
         return 255;
     }
-    let verdict = verdict::judge(s);
-    put_report(verdict, out)
+    let judged = verdict::judge(s);
+    put_verdict(judged, out)
 }
 
 // The listing of any bytes into the front of a buffer.
@@ -84,11 +96,11 @@ pub extern "C" fn dergvost_fresh(state: &mut [u8]) -> u32
 pub extern "C" fn dergvost_load(state: &mut [u8], s: &[u8], out: &mut [u32]) -> u32
     ensures { λ r. ⌜ LoadCall (now (s .entry)) (now (state .entry)) (now (state .exit)) (now (out .entry)) (now (out .exit)) r ⌝ }
 {
-    if out.len() < 4 {
+    if out.len() < 5 {
         return 255;
     }
-    let judged = held_state::load(state, s);
-    put_report(judged, out)
+    let loaded = held_state::load(state, s);
+    put_verdict(loaded, out)
 }
 
 // What the state that is held shows for queues over a scale, and the next state. A refusal leaves its bytes as they were.

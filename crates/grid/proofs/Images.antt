@@ -1,26 +1,26 @@
--- The image of a cell is the smallest closed box that holds all next queues. Assumes nothing.
+-- The image of a cell is the smallest closed box that holds all next queues, and says which of them exceed cap where they are not cut.
+-- Assumes nothing.
 use Prim.Native.Nat.{ℕ, _≤_, _<_}
 use mathlib.Core.List.{List}
 use native.Mathlib.Omega.{arith}
 use Rattle.certificate.specs.Layout.{linksOf, lowOf, highOf}
 use Rattle.network.specs.Network.{networkOf}
-use Rattle.network.proofs.SmallestBox.{encloses, ends-met}
+use Rattle.network.proofs.SmallestBox.{encloses, ends-met, overflow-is-real}
 use Rattle.grid.specs.Cells.{lowerOf, upperOf}
-use Rattle.grid.specs.Successors.{imageLow, imageHigh}
+use Rattle.grid.specs.Successors.{imageLow, imageHigh, imageOver}
 use Rattle.grid.specs.Laws.{ImageOf, ImageIsSmallest, AnyBoxHoldsImage}
 use Rattle.grid.proofs.Edges.{cell-lower-below-upper}
 
 pub image-is-smallest : ImageIsSmallest
-unfolding imageLow imageHigh
+unfolding imageLow imageHigh imageOver
 image-is-smallest s R green limit S b c hb =
-    let ends =
-    ends-met (networkOf s) limit (lowerOf s c) (upperOf s c) (lowOf s b) (highOf s b)
-    (λ k lt. omega (arith, cell-lower-below-upper s R k lt c))
-    (R .box b hb .low-most) in
+    let ordered : (k : ℕ) → k < linksOf s → lowerOf s c k ≤ upperOf s c k = λ k lt. omega (arith, cell-lower-below-upper s R k lt c) in
+    let ends = ends-met (networkOf s) limit (lowerOf s c) (upperOf s c) (lowOf s b) (highOf s b) ordered (R .box b hb .low-most) in
     record {
       holds = encloses (networkOf s) green limit S (lowerOf s c) (upperOf s c) (lowOf s b) (highOf s b);
       low-met = λ l lt. ends l .0;
       high-met = λ l lt. ends l .1;
+      over = overflow-is-real (networkOf s) green limit S (lowerOf s c) (upperOf s c) (lowOf s b) (highOf s b) ordered (R .box b hb .low-most);
     }
 
 pub any-box-holds-image : AnyBoxHoldsImage

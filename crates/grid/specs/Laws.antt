@@ -9,10 +9,10 @@ use Rattle.certificate.specs.Facts.{Readable}
 use Rattle.network.specs.Network.{networkOf}
 use Rattle.network.specs.Flow.{next}
 use Rattle.network.specs.Sound.{Sound, Within}
-use Rattle.network.specs.Laws.{IsMet}
+use Rattle.network.specs.Laws.{IsMet, Exceeds}
 use Rattle.grid.specs.Intervals.{InInterval, intervalAt}
 use Rattle.grid.specs.Cells.{numberOf, intervalIn, lowerOf, upperOf, InCell, cellAt}
-use Rattle.grid.specs.Successors.{imageLow, imageHigh, isSuccessor}
+use Rattle.grid.specs.Successors.{imageLow, imageHigh, imageOver, isSuccessor}
 
 -- a choice of one existing interval for each of the first l links, and for every link
 abbrev pub ChoiceTo : List ℕ → ℕ → (ℕ → ℕ) → Type 0
@@ -85,6 +85,9 @@ pub record ImageOf (s : List ℕ) (limit : ℕ → ℕ) (b c : ℕ) : Type 0 whe
       → IsMet (networkOf s) limit (lowerOf s c) (upperOf s c) (lowOf s b) (highOf s b) l (imageLow s limit b c l)
   pub high-met : (l : ℕ) → l < linksOf s
       → IsMet (networkOf s) limit (lowerOf s c) (upperOf s c) (lowOf s b) (highOf s b) l (imageHigh s limit b c l)
+  -- and it says of each link whether its next queue, not cut at cap, exceeds cap for some of these queues and arrivals
+  pub over : (l : ℕ) → l < linksOf s
+      → (imageOver s limit b c l ≡ true) ↔ Exceeds (networkOf s) limit (lowerOf s c) (upperOf s c) (lowOf s b) (highOf s b) l
 
 abbrev pub ImageIsSmallest : Type 0
 ImageIsSmallest =

@@ -7,7 +7,7 @@ use lib.Dec.{leb, ltb}
 use Rattle.certificate.specs.Loops.{every}
 use Rattle.certificate.specs.Layout.{linksOf, capOf, lowOf, highOf}
 use Rattle.network.specs.Network.{networkOf}
-use Rattle.network.specs.Image.{lowEnd, highEnd}
+use Rattle.network.specs.Image.{lowEnd, highEnd, exceedsCap}
 use Rattle.grid.specs.Intervals.{isInner, lowerEdge, upperEdge}
 use Rattle.grid.specs.Cells.{intervalIn, lowerOf, upperOf}
 
@@ -17,6 +17,10 @@ imageLow s limit b c l = lowEnd (networkOf s) limit (lowerOf s c) (upperOf s c) 
 
 unfoldable pub imageHigh : List ℕ → (ℕ → ℕ) → ℕ → ℕ → ℕ → ℕ
 imageHigh s limit b c l = highEnd (networkOf s) limit (lowerOf s c) (upperOf s c) (highOf s b) l
+
+-- whether link l's next queue, not cut at cap, exceeds cap there
+unfoldable pub imageOver : List ℕ → (ℕ → ℕ) → ℕ → ℕ → ℕ → Bool
+imageOver s limit b c l = exceedsCap (networkOf s) limit (lowerOf s c) (upperOf s c) (highOf s b) l
 
 -- interval i of link l, edges as above, meets the closed range low .. high of ten thousandths
 unfoldable pub meets : List ℕ → ℕ → ℕ → ℕ → ℕ → Bool

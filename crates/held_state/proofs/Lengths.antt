@@ -20,7 +20,7 @@ use Rattle.controller.proofs.Lookups.{none-held}
 use Rattle.controller.proofs.Writings.{write-empty, write-refused}
 use Rattle.held_state.specs.declared.Display.{Display}
 use Rattle.packed_state.specs.State.{stateSize, bytesAfter}
-use Rattle.held_state.specs.Held.{freshReport, loadReport, displayOf, HeldFresh, HeldLoad, Displayed}
+use Rattle.held_state.specs.Held.{freshReport, loadReport, loadOverflows, displayOf, HeldFresh, HeldLoad, Displayed}
 use Rattle.held_state.specs.Laws.{OtherLengths}
 use Rattle.packed_state.proofs.Packing.{other-length, refusal-keeps, same-after}
 
@@ -36,7 +36,7 @@ other-lengths state h =
     let no = ne-eqb (length state) stateSize h in
     record {
       fresh = need-fail _ _ _ no;
-      load = λ s. need-fail _ _ _ no;
+      load = λ s. (need-fail _ _ _ no, rw no);
       query = λ queues scale. rw (other-length state h) (none-held freshState queues scale fresh-holds-none);
       write = λ buffer start. rw (other-length state h) (fresh-writes buffer start);
     }
@@ -57,11 +57,11 @@ module _ (state : List ℕ) (h : length state ≡ stateSize → ⊥) (r : Report
       let back = other-lengths state h .fresh in
       record { report = e ∙ sym back; bytes = unchanged state freshState back }
 
-  pub no-state-load : (s : List ℕ) → HeldLoad s state state r
+  pub no-state-load : (s : List ℕ) → HeldLoad s state state (record { report = r; overflows = 0 })
   no-state-load s =
-      let back = other-lengths state h .load s in
+      let (back, none) = other-lengths state h .load s in
       let number = ap (λ (x : Report). x .number) back in
-      record { report = e ∙ sym back; bytes = unchanged state (holding s) back; runs = λ z. absurd (omega arith) }
+      record { report = e ∙ sym back; overflows = sym none; bytes = unchanged state (holding s) back; runs = λ z. absurd (omega arith) }
 
 -- what fresh and load answer where it is right
 module _ (state : List ℕ) (fit : length state ≡ stateSize) where
@@ -77,15 +77,21 @@ module _ (state : List ℕ) (fit : length state ≡ stateSize) where
     unfolding loadOf
     reports = ap (λ (x : Loaded). x .report) l ∙ sym (need-pass _ _ _ (eq-eqb (length state) stateSize fit))
 
+    overflowing : loaded .overflows ≡ loadOverflows state s
+    unfolding loadOf
+    overflowing = ap (λ (x : Loaded). x .overflows) l ∙ rw (eq-eqb (length state) stateSize fit)
+
     holds : loaded .report .number ≡ 0 → loaded .state ≡ holding s
     unfolding loadOf
     holds z = ap (λ (x : Loaded). x .state) (l ∙ load-accepted c s (rw l at z))
 
     pub load-passes : (state' : List ℕ) → (loaded .report .number ≡ 0 → RunClaim s)
-        → state' ≡ bytesAfter (loaded .report .number) (loaded .state) state → HeldLoad s state state' (loaded .report)
+        → state' ≡ bytesAfter (loaded .report .number) (loaded .state) state
+        → HeldLoad s state state' (record { report = loaded .report; overflows = loaded .overflows })
     load-passes state' claim b =
         record {
           report = reports;
+          overflows = overflowing;
           bytes = b ∙ same-after (loaded .report .number) (loaded .state) (holding s) state holds
               ∙ ap (λ (r : Report). bytesAfter (r .number) (holding s) state) reports;
           runs = λ z. claim (rw reports z);

@@ -5,7 +5,10 @@ use mathlib.Core.List.{List}
 use mathlib.Core.Path.{_≡_}
 use Rattle.certificate.specs.declared.Report.{Report}
 use Rattle.certificate.specs.Checks.{refusal, fine, need}
+use Rattle.certificate.specs.Loops.{pick}
 use Rattle.judging.specs.Verdict.{verdictOf}
+use Rattle.judging.specs.Overflow.{overflowsOf}
+use Rattle.verdict.specs.declared.Verdict.{Verdict}
 use Rattle.runs.specs.Claim.{RunClaim}
 use Rattle.controller.specs.declared.Shown.{Shown}
 use Rattle.controller.specs.State.{freshState, holding}
@@ -25,8 +28,13 @@ pub record HeldFresh (state state' : List ℕ) (r : Report) : Type 0 where
 abbrev pub loadReport : List ℕ → List ℕ → Report
 loadReport state s = need (hasStateSize state) (refusal 18 0) (verdictOf s)
 
-pub record HeldLoad (s state state' : List ℕ) (r : Report) : Type 0 where
-  pub report : r ≡ loadReport state s
+-- the number beside the count that an acceptance has
+abbrev pub loadOverflows : List ℕ → List ℕ → ℕ
+loadOverflows state s = pick (hasStateSize state) (overflowsOf s) 0
+
+pub record HeldLoad (s state state' : List ℕ) (v : Verdict) : Type 0 where
+  pub report : v .report ≡ loadReport state s
+  pub overflows : v .overflows ≡ loadOverflows state s
   pub bytes : state' ≡ bytesAfter (loadReport state s .number) (holding s) state
   pub runs : loadReport state s .number ≡ 0 → RunClaim s
 

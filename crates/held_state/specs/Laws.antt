@@ -8,12 +8,12 @@ use Rattle.controller.specs.State.{freshState}
 use Rattle.controller.specs.Query.{refused}
 use Rattle.controller.specs.Write.{writeReport, writeBuffer}
 use Rattle.packed_state.specs.State.{stateSize, heldIn}
-use Rattle.held_state.specs.Held.{freshReport, loadReport, shownFor}
+use Rattle.held_state.specs.Held.{freshReport, loadReport, loadOverflows, shownFor}
 
 -- a state's slice of any other length gets 18 from every call; a query shows signal and green byte 0, and a write leaves the buffer as it was
 pub record TurnedBack (state : List ℕ) : Type 0 where
   pub fresh : freshReport state ≡ refusal 18 0
-  pub load : (s : List ℕ) → loadReport state s ≡ refusal 18 0
+  pub load : (s : List ℕ) → (loadReport state s ≡ refusal 18 0) × (loadOverflows state s ≡ 0)
   pub query : (queues : List ℕ) (scale : ℕ) → shownFor state queues scale ≡ refused freshState (refusal 18 0)
   pub write : (buffer : List ℕ) (start : ℕ)
       → (writeReport (heldIn state) buffer start ≡ refusal 18 0) × (writeBuffer (heldIn state) buffer start ≡ buffer)

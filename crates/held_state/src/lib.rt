@@ -9,6 +9,7 @@ ghost use Rattle.held_state.specs.Held.{shownFor, displayOf, HeldFresh, 
 use certificate::Report;
 use controller::Controller;
 use controller::Shown;
+use verdict::Verdict;
 
 // What is displayed for a query or a poll: its report, the signal to show and its green byte.
 pub struct Display {
@@ -57,17 +58,24 @@ pub fn fresh(state: &mut [u8]) -> Report
 }
 
 // Loads any bytes. An accepted load keeps nothing of the state before, so that state is not unpacked.
-pub fn load(state: &mut [u8], s: &[u8]) -> Report
+pub fn load(state: &mut [u8], s: &[u8]) -> Verdict
     ensures { λ r. ⌜ HeldLoad (now (s .entry)) (now (state .entry)) (now (state .exit)) r ⌝ }
 {
     if !packed_state::has_state_size(state) {
-        return octets::refuse(18, 0);
+        let report = octets::refuse(18, 0);
+        return Verdict {
+            report,
+            overflows: 0,
+        };
     }
     let loaded = Controller::fresh().load(s);
     let judged = loaded.report;
     let next = loaded.state;
     packed_state::pack(judged.number, next, state);
-    judged
+    Verdict {
+        report: judged,
+        overflows: loaded.overflows,
+    }
 }
 
 // What the state that is held shows for queues over a scale, and the next state.

@@ -2,7 +2,7 @@
 // `start` is where the records of turns begin, `first` has where each link's turns begin, `limits` the most that each link may send.
 ghost use mathlib.Core.Path.{_≡_};
 ghost use Prim.Native.Nat.{ℕ, _+_, _*_, _<_, _≤_, min};
-ghost use lib.Dec.{eqb};
+ghost use lib.Dec.{eqb, ltb};
 ghost use lib.ListN.{length};
 ghost use Rattle.certificate.specs.Loops.{pick};
 ghost use Rattle.certificate.specs.Layout.{maxTurns, maxLinks, linksOf, turnsOf, shareOf};
@@ -162,4 +162,12 @@ pub fn end_of(cap: usize, before: usize, arrivals: usize) -> usize
     ensures { λ r. ⌜ r ≡ min cap (before + arrivals) ⌝ }
 {
     numbers::smaller(cap, before + arrivals)
+}
+
+// Whether an end with arrivals, not cut at cap, exceeds cap.
+pub fn exceeds(cap: usize, before: usize, arrivals: usize) -> bool
+    requires { ⌜ (before ≤ endBound) × (arrivals ≤ endBound) ⌝ }
+    ensures { λ r. ⌜ r ≡ ltb cap (before + arrivals) ⌝ }
+{
+    cap < before + arrivals
 }

@@ -16,13 +16,17 @@ unfolding sumTo
 sum-most zero k f h = omega arith
 sum-most (suc n) k f h = rw suc-mul (omega (arith, sum-most n k f h, h n))
 
+-- at most n of n indices pass a test
+pub ones-most : (n : ℕ) (p : ℕ → Bool) → sumTo n (λ k. pick (p k) 1 0) ≤ n
+ones-most n p = rw mul-one at (sum-most n 1 (λ k. pick (p k) 1 0) (λ t. one (p t)))
+  where
+    one : (q : Bool) → pick q 1 0 ≤ 1
+    one true = omega arith
+    one false = omega arith
+
 module _ (s : List ℕ) where
   cells-most : (e b d : ℕ) → lookedCells s e b d ≤ d
-  cells-most e b d = rw mul-one at (sum-most d 1 (looked s e b) (λ t. one (isSuccessor s (entryLimit s e) b (cellOf s e) t)))
-    where
-      one : (q : Bool) → pick q 1 0 ≤ 1
-      one true = omega arith
-      one false = omega arith
+  cells-most e b d = ones-most d (isSuccessor s (entryLimit s e) b (cellOf s e))
 
   boxes-most : (e b : ℕ) → lookedBoxes s e b ≤ b * cellsOf s
   boxes-most e b = sum-most b (cellsOf s) (λ k. lookedCells s e k (cellsOf s)) (λ k. cells-most e k (cellsOf s))

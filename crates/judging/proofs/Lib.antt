@@ -9,4 +9,5 @@ pub mod Outcome
 pub mod Asking
 pub mod EntryOutcomes
 pub mod Verdicts
+pub mod Overflows
 pub mod PlaceBounds

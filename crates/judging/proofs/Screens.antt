@@ -29,7 +29,7 @@ abbrev pub RoomsFit : List ℕ → Type 0
 RoomsFit s = (t : ℕ) → t < turnsOf s → roomOk s t ≡ true
 
 -- a number is at most k or above it
-at-most-or-above : (n k : ℕ) → (n ≤ k) ⊎ (k < n)
+pub at-most-or-above : (n k : ℕ) → (n ≤ k) ⊎ (k < n)
 at-most-or-above n k = go (leb n k) refl
   where
     go : (b : Bool) → leb n k ≡ b → (n ≤ k) ⊎ (k < n)

@@ -6,13 +6,17 @@ use mathlib.Core.Path.{_≡_}
 use lib.ListN.{length, take}
 use Rattle.certificate.specs.declared.Report.{Report}
 use Rattle.certificate.specs.Checks.{result}
-use Rattle.certificate.specs.Layout.{maxPullSum, maxLength, linksOf, turnsOf, signalsOf, cellsOf, boxesOf, entriesOf}
+use Rattle.certificate.specs.Layout.{maxPullSum, maxLength, linksOf, turnsOf, signalsOf, cellsOf, boxesOf, lowOf, highOf, entriesOf, cellOf}
 use Rattle.certificate.specs.Reading.{readingOf}
 use Rattle.certificate.specs.Laws.{ReadingNumber, Refusals}
-use Rattle.network.specs.Network.{networkOf, isGreen}
+use Rattle.network.specs.Network.{networkOf, isGreen, entryLimit}
+use Rattle.network.specs.Flow.{gross, next}
 use Rattle.network.specs.Conditions.{pullSum, roomOk}
-use Rattle.network.specs.Laws.{Screened}
+use Rattle.network.specs.Laws.{Exceeds, Screened}
+use Rattle.grid.specs.Cells.{lowerOf, upperOf}
+use Rattle.grid.specs.Laws.{InClosedCell, InBox}
 use Rattle.judging.specs.Verdict.{verdictOf}
+use Rattle.judging.specs.Overflow.{entryOverflows, overflowsBefore, overflowsOf}
 use Rattle.judging.specs.Conditions.{SafeCell, RankFits, Follows, ListedNext, LowerNext, SuccessorHolds, EntryHolds, lookedCells, lookedBoxes, lookedEntries, PlaceBefore}
 use mathlib.Core.Bool.{true, false}
 
@@ -124,3 +128,40 @@ abbrev pub RefusedNotLower : Type 0
 RefusedNotLower =
     (s : List ℕ) (e d n : ℕ)
     → (verdictOf s ≡ result 15 e d n) ↔ (ReachesCell s e d n × ListedNext s e d × (LowerNext s e d → ⊥))
+
+-- Where arrivals may be turned away.
+
+-- a link and an arrival box for which the link's next queue, not cut at cap, exceeds cap for some exact queues of entry e's closed cell and
+-- some exact arrivals of the box
+pub record TurnsAway (s : List ℕ) (e : ℕ) : Type 0 where
+  pub box : ℕ
+  pub link : ℕ
+  pub box-exists : box < boxesOf s
+  pub link-exists : link < linksOf s
+  pub exceeds : Exceeds (networkOf s) (entryLimit s e) (lowerOf s (cellOf s e)) (upperOf s (cellOf s e)) (lowOf s box) (highOf s box) link
+
+-- the entries that are counted are exactly those that have one
+abbrev pub EntryOverflows : Type 0
+EntryOverflows = (s : List ℕ) → Screened s → (e : ℕ) → e < entriesOf s → (entryOverflows s e ≡ true) ↔ TurnsAway s e
+
+-- under any other entry no arrival is turned away: the cut at cap changes no next queue
+abbrev pub NotCut : Type 0
+NotCut =
+    (s : List ℕ) → Screened s → (e : ℕ) → e < entriesOf s → entryOverflows s e ≡ false
+    → (b D : ℕ) (x a : ℕ → ℕ) → b < boxesOf s → 1 ≤ D → InClosedCell s (cellOf s e) D x → InBox s b D a → (l : ℕ) → l < linksOf s
+    → next (networkOf s) (entryLimit s e) D x a l ≡ gross (networkOf s) (entryLimit s e) D x a l
+
+-- an acceptance has the number of such entries, a refusal 0
+abbrev pub AcceptedOverflows : Type 0
+AcceptedOverflows = (s : List ℕ) → verdictOf s .number ≡ 0 → overflowsOf s ≡ overflowsBefore s (entriesOf s)
+
+abbrev pub RefusedOverflows : Type 0
+RefusedOverflows = (s : List ℕ) → (verdictOf s .number ≡ 0 → ⊥) → overflowsOf s ≡ 0
+
+-- an entry counts once, so the number is at most that of the entries
+abbrev pub OverflowsFit : Type 0
+OverflowsFit = (s : List ℕ) → overflowsOf s ≤ entriesOf s
+
+-- the number of a byte string is that of its first (greatest length + 1) bytes
+abbrev pub OverflowsOfLong : Type 0
+OverflowsOfLong = (s : List ℕ) → overflowsOf s ≡ overflowsOf (take (maxLength + 1) s)

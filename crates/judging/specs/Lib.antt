@@ -4,4 +4,5 @@ pub mod Conditions
 pub mod Asking
 pub mod EntryTests
 pub mod Verdict
+pub mod Overflow
 pub mod Laws

@@ -8,6 +8,7 @@ use lib.ListN.{length}
 use Rattle.certificate.specs.declared.Report.{Report}
 use Rattle.certificate.specs.Checks.{result, refusal, need}
 use Rattle.judging.specs.Verdict.{verdictOf}
+use Rattle.judging.specs.Overflow.{overflowsOf}
 use Rattle.text.specs.TextPut.{written, Put}
 use Rattle.listing_text.specs.Listing.{textOf, listingOf, sendReport, sendBuffer, Sent}
 
@@ -27,6 +28,7 @@ module _ {text buffer : List ℕ} {answer : Report} where
       }
 
 -- what is sent under the verdict is the listing
-pub listed : (s : List ℕ) {buffer after : List ℕ} {r answer : Report} → r ≡ verdictOf s → Sent (textOf s r) buffer after answer → Sent (listingOf s) buffer after answer
+pub listed : (s : List ℕ) {buffer after : List ℕ} {r answer : Report} {n : ℕ} → r ≡ verdictOf s → n ≡ overflowsOf s
+    → Sent (textOf s r n) buffer after answer → Sent (listingOf s) buffer after answer
 unfolding listingOf
-listed s e h = rw e at h
+listed s e o h = rw (e, o) at h

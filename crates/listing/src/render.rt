@@ -12,35 +12,41 @@ use listing_lines::lengths;
 use listing_lines::lines;
 
 // The text of an accepted certificate: how long it is.
-fn text_length(s: &[u8], start: usize, report: Report) -> usize
+fn text_length(s: &[u8], start: usize, report: Report, overflows: u32) -> usize
     requires { ⌜ EntriesAt (now s) start ⌝ }
-    ensures { λ r. ⌜ (r ≡ length (acceptedText (now (s .entry)) report)) × (r ≤ offsetBound) ⌝ }
+    ensures { λ r. ⌜ (r ≡ length (acceptedText (now (s .entry)) report overflows)) × (r ≤ offsetBound) ⌝ }
 {
     lengths::counts_length(s)
         + lengths::entries_length(s, start, header_record::entries_of(s))
-        + lengths::accepted_length(report)
+        + lengths::accepted_length(report, overflows)
 }
 
 // The text of an accepted certificate, in the front of the buffer.
-fn put_text(buffer: &mut [u8], s: &[u8], start: usize, report: Report) -> usize
-    requires { ⌜ EntriesAt (now s) start × Room (now buffer) 0 (acceptedText (now s) report) ⌝ }
-    ensures { λ r. ⌜ Put (now (buffer .entry)) 0 (acceptedText (now (s .entry)) report) (now (buffer .exit)) r ⌝ }
+fn put_text(buffer: &mut [u8], s: &[u8], start: usize, report: Report, overflows: u32) -> usize
+    requires { ⌜ EntriesAt (now s) start × Room (now buffer) 0 (acceptedText (now s) report overflows) ⌝ }
+    ensures { λ r. ⌜ Put (now (buffer .entry)) 0 (acceptedText (now (s .entry)) report overflows) (now (buffer .exit)) r ⌝ }
 {
     let first = lines::put_counts(buffer, 0, s);
     let last = lines::put_entries(buffer, first, s, start, header_record::entries_of(s));
-    lines::put_accepted(buffer, last, report)
+    lines::put_accepted(buffer, last, report, overflows)
 }
 
-// The listing of an accepted certificate. `start` is where the records of its entries begin.
-pub fn render_accepted(s: &[u8], start: usize, report: Report, buffer: &mut [u8]) -> Report
+// The listing of an accepted certificate. `start` is where the records of its entries begin, `overflows` how many of them may turn arrivals away.
+pub fn render_accepted(
+    s: &[u8],
+    start: usize,
+    report: Report,
+    overflows: u32,
+    buffer: &mut [u8],
+) -> Report
     requires { ⌜ EntriesAt (now s) start ⌝ }
-    ensures { λ r. ⌜ Sent (acceptedText (now (s .entry)) report) (now (buffer .entry)) (now (buffer .exit)) r ⌝ }
+    ensures { λ r. ⌜ Sent (acceptedText (now (s .entry)) report overflows) (now (buffer .entry)) (now (buffer .exit)) r ⌝ }
 {
-    let size = text_length(s, start, report);
+    let size = text_length(s, start, report, overflows);
     if buffer.len() < size {
         return octets::refuse(17, 0);
     }
-    put_text(buffer, s, start, report);
+    put_text(buffer, s, start, report, overflows);
     octets::report(0, size, 0, 0)
 }
 

@@ -16,9 +16,9 @@ pub entry-is : (s : List ℕ) (e : ℕ) → entryLine s e ≡ numbersLine (entry
 unfolding entryLine numbersLine numbersAfter
 entry-is s e = refl
 
-pub accepted-is : (r : Report) → acceptedLine r ≡ (acceptedWord ++ space) ++ (decimal (r .count) ++ lineFeed)
-unfolding acceptedLine
-accepted-is r = refl
+pub accepted-is : (r : Report) (n : ℕ) → acceptedLine r n ≡ (acceptedWord ++ space) ++ numbersLine (r .count ∷ n ∷ [])
+unfolding acceptedLine numbersLine numbersAfter
+accepted-is r n = refl
 
 pub refused-is : (r : Report) → refusedLine r ≡ (refusedWord ++ space) ++ numbersLine (r .number ∷ r .a ∷ r .b ∷ r .count ∷ [])
 unfolding refusedLine numbersLine numbersAfter

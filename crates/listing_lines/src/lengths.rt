@@ -1,10 +1,12 @@
 // How long each part of the text is, so that a buffer's size is tested before anything is written.
 ghost use mathlib.Core.Path.{_≡_};
 ghost use Prim.Native.Nat.{_+_, _*_, _<_, _≤_};
+ghost use mathlib.Core.List.{_++_};
 ghost use lib.ListN.{length};
 ghost use Rattle.certificate.specs.Layout.{maxEntries, entriesStart};
 ghost use Rattle.listing_text.specs.Text.{decimal};
 ghost use Rattle.listing_text.specs.Lines.{countsLine, entryLine, entryLines, acceptedLine, refusedLine};
+ghost use Rattle.text.specs.NumberLines.{numbersLine};
 ghost use Rattle.octets.specs.Bounds.{startBound};
 use crate::fields;
 use certificate::Report;
@@ -58,15 +60,24 @@ pub fn entries_length(s: &[u8], start: usize, n: usize) -> usize
     total
 }
 
-pub fn accepted_length(report: Report) -> usize
-    ensures { λ r. ⌜ (r ≡ length (acceptedLine report)) × (r ≤ 21) ⌝ }
+// A word with the space after it, and a line of numbers.
+fn line_length(word: &[u8], numbers: &[u32]) -> usize
+    requires { ⌜ (length (now word) ≤ 10) × (length (now numbers) ≤ 5) ⌝ }
+    ensures { λ r. ⌜ (r ≡ length (now (word .entry) ++ numbersLine (now (numbers .entry)))) × (r ≤ 65) ⌝ }
 {
-    field_length(b"accepted ", report.count)
+    word.len() + text::numbers_length(numbers)
+}
+
+pub fn accepted_length(report: Report, overflows: u32) -> usize
+    ensures { λ r. ⌜ (r ≡ length (acceptedLine report overflows)) × (r ≤ 65) ⌝ }
+{
+    let numbers = [report.count, overflows];
+    line_length(b"accepted ", &numbers)
 }
 
 pub fn refused_length(report: Report) -> usize
-    ensures { λ r. ⌜ (r ≡ length (refusedLine report)) × (r ≤ 52) ⌝ }
+    ensures { λ r. ⌜ (r ≡ length (refusedLine report)) × (r ≤ 65) ⌝ }
 {
     let numbers = [report.number as u32, report.a, report.b, report.count];
-    b"refused ".len() + text::numbers_length(&numbers)
+    line_length(b"refused ", &numbers)
 }

@@ -5,6 +5,7 @@ ghost use Prim.Native.Nat.{_<_, _≤_};
 ghost use Rattle.certificate.specs.Layout.{maxEntries, entriesStart};
 ghost use Rattle.listing_text.specs.Text.{decimal, space};
 ghost use Rattle.listing_text.specs.Lines.{countsLine, entryLine, entryLines, acceptedLine, refusedLine};
+ghost use Rattle.text.specs.NumberLines.{numbersLine};
 ghost use Rattle.text.specs.TextPut.{Room, Put};
 ghost use Rattle.octets.specs.Bounds.{startBound};
 use crate::fields;
@@ -58,18 +59,27 @@ pub fn put_entries(buffer: &mut [u8], at: usize, s: &[u8], start: usize, n: usiz
     next
 }
 
-pub fn put_accepted(buffer: &mut [u8], at: usize, report: Report) -> usize
-    requires { ⌜ Room (now buffer) at (acceptedLine report) ⌝ }
-    ensures { λ r. ⌜ Put (now (buffer .entry)) at (acceptedLine report) (now (buffer .exit)) r ⌝ }
+// A word with the space after it, and a line of numbers.
+fn put_line(buffer: &mut [u8], at: usize, word: &[u8], numbers: &[u32]) -> usize
+    requires { ⌜ Room (now buffer) at (now word ++ numbersLine (now numbers)) ⌝ }
+    ensures { λ r. ⌜ Put (now (buffer .entry)) at (now (word .entry) ++ numbersLine (now (numbers .entry))) (now (buffer .exit)) r ⌝ }
 {
-    text::put_field(buffer, at, b"accepted ", report.count, b'\n')
+    let next = text::put_word(buffer, at, word);
+    text::put_numbers(buffer, next, numbers)
+}
+
+pub fn put_accepted(buffer: &mut [u8], at: usize, report: Report, overflows: u32) -> usize
+    requires { ⌜ Room (now buffer) at (acceptedLine report overflows) ⌝ }
+    ensures { λ r. ⌜ Put (now (buffer .entry)) at (acceptedLine report overflows) (now (buffer .exit)) r ⌝ }
+{
+    let numbers = [report.count, overflows];
+    put_line(buffer, at, b"accepted ", &numbers)
 }
 
 pub fn put_refused(buffer: &mut [u8], at: usize, report: Report) -> usize
     requires { ⌜ Room (now buffer) at (refusedLine report) ⌝ }
     ensures { λ r. ⌜ Put (now (buffer .entry)) at (refusedLine report) (now (buffer .exit)) r ⌝ }
 {
-    let next = text::put_word(buffer, at, b"refused ");
     let numbers = [report.number as u32, report.a, report.b, report.count];
-    text::put_numbers(buffer, next, &numbers)
+    put_line(buffer, at, b"refused ", &numbers)
 }

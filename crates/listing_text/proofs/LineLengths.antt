@@ -69,10 +69,12 @@ module _ (s : List ℕ) (R : Readable s) where
   entries-most zero h = omega arith
   entries-most (suc n) h = rw length-append (omega (arith, entries-most n (omega arith), entry-most n h))
 
--- the last line, and the only line of a refused certificate
-pub accepted-most : (r : Report) → length (acceptedLine r) ≤ maxAcceptedLine
-unfolding acceptedLine
-accepted-most r = simp length-append (omega (arith, decimal-fits (r .count)))
+  -- the last line
+  pub accepted-most : (r : Report) (n : ℕ) → n ≤ entriesOf s → length (acceptedLine r n) ≤ maxAcceptedLine
+  unfolding acceptedLine
+  accepted-most r n le = simp length-append (omega (arith, decimal-fits (r .count), decimal-short 3 n (omega (arith, R .header .entries-most))))
+
+-- the only line of a refused certificate
 
 pub refused-most : (r : Report) → length (refusedLine r) ≤ maxCountsLine
 unfolding refusedLine

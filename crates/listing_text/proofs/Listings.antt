@@ -14,25 +14,27 @@ use Rattle.certificate.specs.Facts.{Readable}
 use Rattle.certificate.proofs.Size.{readable-fits}
 use Rattle.certificate.proofs.Tests.{passes}
 use Rattle.judging.specs.Verdict.{verdictOf}
+use Rattle.judging.specs.Overflow.{overflowsOf}
 use Rattle.judging.proofs.Verdicts.{accepted-is-plain, verdict-of-long}
+use Rattle.judging.proofs.Overflows.{overflows-fit}
 use Rattle.listing_text.specs.Lines.{countsLine, entryLines, acceptedLine, refusedLine}
 use Rattle.listing_text.specs.Listing.{acceptedText, textOf, listingOf, sendReport, sendBuffer, Sent}
 use Rattle.listing_text.specs.Laws.{maxListing, ListingFits, ListingSent, ListingOfLong}
 use Rattle.listing_text.proofs.LineLengths.{counts-most, entries-most, accepted-most, refused-most}
 
 -- the text under a report, by its number
-pub text-accepted : (s : List ℕ) (r : Report) → r .number ≡ 0 → textOf s r ≡ acceptedText s r
+pub text-accepted : (s : List ℕ) (r : Report) (n : ℕ) → r .number ≡ 0 → textOf s r n ≡ acceptedText s r n
 unfolding textOf
-text-accepted s r e = rw (eq-eqb (r .number) 0 e)
+text-accepted s r n e = rw (eq-eqb (r .number) 0 e)
 
-pub text-refused : (s : List ℕ) (r : Report) → (r .number ≡ 0 → ⊥) → textOf s r ≡ refusedLine r
+pub text-refused : (s : List ℕ) (r : Report) (n : ℕ) → (r .number ≡ 0 → ⊥) → textOf s r n ≡ refusedLine r
 unfolding textOf
-text-refused s r e = rw (ne-eqb (r .number) 0 e)
+text-refused s r n e = rw (ne-eqb (r .number) 0 e)
 
-pub length-accepted : (s : List ℕ) (r : Report)
-    → length (acceptedText s r) ≡ length (countsLine s) + (length (entryLines s (entriesOf s)) + length (acceptedLine r))
+pub length-accepted : (s : List ℕ) (r : Report) (n : ℕ)
+    → length (acceptedText s r n) ≡ length (countsLine s) + (length (entryLines s (entriesOf s)) + length (acceptedLine r n))
 unfolding acceptedText
-length-accepted s r = rw (length-append, length-append)
+length-accepted s r n = rw (length-append, length-append)
 
 -- an accepted certificate is readable
 readable : (s : List ℕ) → verdictOf s .number ≡ 0 → Readable s
@@ -42,14 +44,20 @@ pub listing-fits : ListingFits
 unfolding listingOf
 listing-fits s = ⊎-elim accepted refused (passes (verdictOf s))
   where
-    accepted : verdictOf s .number ≡ 0 → length (textOf s (verdictOf s)) ≤ maxListing
+    accepted : verdictOf s .number ≡ 0 → length (textOf s (verdictOf s) (overflowsOf s)) ≤ maxListing
     accepted z =
         let R = readable s z in
-        rw (text-accepted s (verdictOf s) z, length-accepted)
-        (omega (arith, counts-most s R, entries-most s R (entriesOf s) (omega arith), accepted-most (verdictOf s), R .header .entries-most))
+        rw (text-accepted s (verdictOf s) (overflowsOf s) z, length-accepted)
+        (omega (
+          arith,
+          counts-most s R,
+          entries-most s R (entriesOf s) (omega arith),
+          accepted-most s R (verdictOf s) (overflowsOf s) (overflows-fit s),
+          R .header .entries-most,
+        ))
 
-    refused : (verdictOf s .number ≡ 0 → ⊥) → length (textOf s (verdictOf s)) ≤ maxListing
-    refused bad = rw (text-refused s (verdictOf s) bad) (omega (arith, refused-most (verdictOf s)))
+    refused : (verdictOf s .number ≡ 0 → ⊥) → length (textOf s (verdictOf s) (overflowsOf s)) ≤ maxListing
+    refused bad = rw (text-refused s (verdictOf s) (overflowsOf s) bad) (omega (arith, refused-most (verdictOf s)))
 
 -- a text that fits a buffer is sent whole
 module _ {text buffer after : List ℕ} {answer : Report} (fits : length text ≤ length buffer) (sent : Sent text buffer after answer) where
@@ -74,8 +82,12 @@ pub listing-of-long : ListingOfLong
 unfolding listingOf
 listing-of-long s = ⊎-elim accepted refused (passes (verdictOf s))
   where
-    accepted : verdictOf s .number ≡ 0 → textOf s (verdictOf s) ≡ textOf (take (maxLength + 1) s) (verdictOf (take (maxLength + 1) s))
+    front : List ℕ
+    front = take (maxLength + 1) s
+
+    accepted : verdictOf s .number ≡ 0 → textOf s (verdictOf s) (overflowsOf s) ≡ textOf front (verdictOf front) (overflowsOf front)
     accepted z = rw (take-all (maxLength + 1) s (omega (arith, readable-fits s (readable s z))))
 
-    refused : (verdictOf s .number ≡ 0 → ⊥) → textOf s (verdictOf s) ≡ textOf (take (maxLength + 1) s) (verdictOf (take (maxLength + 1) s))
-    refused bad = rw (← verdict-of-long s) (text-refused s (verdictOf s) bad ∙ sym (text-refused (take (maxLength + 1) s) (verdictOf s) bad))
+    refused : (verdictOf s .number ≡ 0 → ⊥) → textOf s (verdictOf s) (overflowsOf s) ≡ textOf front (verdictOf front) (overflowsOf front)
+    refused bad =
+        rw (← verdict-of-long s) (text-refused s (verdictOf s) (overflowsOf s) bad ∙ sym (text-refused front (verdictOf s) (overflowsOf front) bad))

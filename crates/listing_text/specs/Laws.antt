@@ -45,11 +45,11 @@ maxCountsLine = 49 + (1 + 2 + 2 + 1 + 1 + 4)
 abbrev pub maxEntryLine : ℕ
 maxEntryLine = 5 + (4 + 1 + 2 + 1 + 10)
 
--- the count
+-- the count, and how many entries may turn arrivals away
 abbrev pub maxAcceptedLine : ℕ
-maxAcceptedLine = 10 + 10
+maxAcceptedLine = 11 + (10 + 4)
 
--- the most bytes of a listing: 94,288
+-- the most bytes of a listing: 94,293
 abbrev pub maxListing : ℕ
 maxListing = maxCountsLine + maxEntryLine * maxEntries + maxAcceptedLine
 

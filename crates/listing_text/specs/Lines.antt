@@ -22,9 +22,9 @@ unfoldable pub entryLines : List ℕ → ℕ → List ℕ
 entryLines s zero = []
 entryLines s (suc n) = entryLines s n ++ entryLine s n
 
--- accepted, and the count
-unfoldable pub acceptedLine : Report → List ℕ
-acceptedLine r = field acceptedWord (r .count) ++ lineFeed
+-- accepted, the count, and the number n of entries that may turn arrivals away
+unfoldable pub acceptedLine : Report → ℕ → List ℕ
+acceptedLine r n = field acceptedWord (r .count) ++ (space ++ (decimal n ++ lineFeed))
 
 -- refused, number, A, B, count
 unfoldable pub refusedLine : Report → List ℕ

@@ -1,17 +1,17 @@
--- The image is the smallest closed box that holds every next queue. Assumes nothing.
+-- The image is the smallest closed box that holds every next queue, and says which of them exceed cap where they are not cut. Assumes nothing.
 use Prim.Native.Nat.{ℕ, _*_, _≤_, _<_}
 use mathlib.Core.Bool.{Bool, true, false, not, _&&_}
 use mathlib.Core.Path.{_≡_, refl, sym}
-use native.Mathlib.Nat.{le-refl, mul-one}
+use native.Mathlib.Nat.{le-refl, mul-one, mul-left-comm, lt-of-mul-lt-mul-left}
 use native.Mathlib.Omega.{arith}
-use borrow.Author.Tests.{eqb-true, eq-eqb, ne-eqb}
-use lib.Dec.{eqb}
+use borrow.Author.Tests.{ltb-true, lt-ltb, eqb-true, eq-eqb, ne-eqb}
+use lib.Dec.{eqb, ltb}
 use Rattle.certificate.specs.Loops.{pick}
 use Rattle.network.specs.Network.{Network}
-use Rattle.network.specs.Flow.{next}
-use Rattle.network.specs.Image.{beside, lowCorner, highCorner, lowEnd, highEnd}
+use Rattle.network.specs.Flow.{gross, next}
+use Rattle.network.specs.Image.{beside, lowCorner, highCorner, lowEnd, highEnd, exceedsCap}
 use Rattle.network.specs.Sound.{Sound, Pushes}
-use Rattle.network.specs.Laws.{Encloses, EndsMet, Smallest}
+use Rattle.network.specs.Laws.{Encloses, EndsMet, Smallest, Exceeds, OverflowIsReal}
 use Rattle.network.proofs.Monotone.{monotone}
 use Rattle.network.proofs.Scale.{scale-free}
 
@@ -72,3 +72,33 @@ pub ends-ordered : (N : Network) (green : ℕ → Bool) (limit : ℕ → ℕ) �
 ends-ordered N green limit S lower upper low high hx ha l hl =
     let (x, a, wx, wa, met) = ends-met N limit lower upper low high hx ha l .0 in
     omega (arith, met, encloses N green limit S lower upper low high 1 x a wx wa l hl .1)
+
+-- the same of what is not cut at cap
+whole-gross : (N : Network) (limit : ℕ → ℕ) (D : ℕ) (x a : ℕ → ℕ) (l : ℕ) → D * gross N limit 1 x a l ≡ gross N limit D (λ j. D * x j) (λ j. D * a j) l
+whole-gross N limit D x a l = sym (rw mul-one at (scale-free N limit D 1 x a l .0))
+
+pub overflow-is-real : OverflowIsReal
+unfolding exceedsCap highCorner
+overflow-is-real N green limit S lower upper low high hx ha l hl = (there, back)
+  where
+    there : ltb (10000 * N .cap l) (gross N limit 1 (highCorner N l lower upper) high l) ≡ true → Exceeds N limit lower upper low high l
+    there e =
+        record {
+          scale = 1;
+          queues = highCorner N l lower upper;
+          arrivals = high;
+          scale-least = le-refl 1;
+          inside = λ k lk. pick-within _ _ (lower k) (upper k) (omega (arith, hx k lk)) (omega (arith, hx k lk)) (beside N l k);
+          arriving = λ k lk. omega (arith, ha k lk);
+          above = let h = ltb-true (10000 * N .cap l) (gross N limit 1 (highCorner N l lower upper) high l) e in omega arith;
+        }
+
+    back : Exceeds N limit lower upper low high l → ltb (10000 * N .cap l) (gross N limit 1 (highCorner N l lower upper) high l) ≡ true
+    back E =
+        let D = E .scale in
+        let above : Pushes N l (E .queues) (λ k. D * highCorner N l lower upper k) =
+        pushes-by N l (E .queues) (λ k. D * highCorner N l lower upper k) (λ k lk e. rw e (E .inside k lk .0)) (λ k lk e. rw e (E .inside k lk .1)) in
+        let most : gross N limit D (E .queues) (E .arrivals) l ≤ D * gross N limit 1 (highCorner N l lower upper) high l =
+        rw (whole-gross N limit D) (monotone N green limit S D l hl (E .queues) (λ k. D * highCorner N l lower upper k) (E .arrivals) (λ k. D * high k) above (E .arriving l hl .1) .0) in
+        let scaled : D * (10000 * N .cap l) < D * gross N limit 1 (highCorner N l lower upper) high l = omega (arith, E .above, mul-left-comm D 10000 (N .cap l)) in
+        lt-ltb (10000 * N .cap l) (gross N limit 1 (highCorner N l lower upper) high l) (lt-of-mul-lt-mul-left D scaled)

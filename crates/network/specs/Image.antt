@@ -1,12 +1,13 @@
--- The image of a closed box of queues: the smallest closed box that holds every next queue (the one-step reachable box).
+-- The image of a closed box of queues: the smallest closed box that holds every next queue (the one-step reachable box), and for each link
+-- whether its next queue, not cut at cap, exceeds cap.
 -- A link's own queue and those upstream and downstream of it push its next queue up; links with the same tail push it down.
 -- All entry links have tail 0 and so stand beside one another; no turn leads into an entry link, so that changes nothing.
-use Prim.Native.Nat.{ℕ}
+use Prim.Native.Nat.{ℕ, _*_}
 use mathlib.Core.Bool.{Bool, not, _&&_}
-use lib.Dec.{eqb}
+use lib.Dec.{eqb, ltb}
 use Rattle.certificate.specs.Loops.{pick}
 use Rattle.network.specs.Network.{Network}
-use Rattle.network.specs.Flow.{next}
+use Rattle.network.specs.Flow.{gross, next}
 
 -- link k stands beside link l: the same tail, and not l itself
 unfoldable pub beside : Network → ℕ → ℕ → Bool
@@ -26,3 +27,7 @@ lowEnd N limit lower upper low l = next N limit 1 (lowCorner N l lower upper) lo
 
 abbrev pub highEnd : Network → (ℕ → ℕ) → (ℕ → ℕ) → (ℕ → ℕ) → (ℕ → ℕ) → ℕ → ℕ
 highEnd N limit lower upper high l = next N limit 1 (highCorner N l lower upper) high l
+
+-- whether link l's next queue, not cut at cap, exceeds cap for some queues of the box and some arrivals: at the high corner it is greatest
+unfoldable pub exceedsCap : Network → (ℕ → ℕ) → (ℕ → ℕ) → (ℕ → ℕ) → (ℕ → ℕ) → ℕ → Bool
+exceedsCap N limit lower upper high l = ltb (10000 * N .cap l) (gross N limit 1 (highCorner N l lower upper) high l)

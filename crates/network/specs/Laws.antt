@@ -1,7 +1,7 @@
 -- What is proved of the flow rule and the image of a box (proofs/ of this crate). Statements only.
 use Prim.Native.Nat.{ℕ, _+_, _*_, _-_, _≤_, _<_}
 use mathlib.Core.List.{List}
-use mathlib.Core.Bool.{Bool}
+use mathlib.Core.Bool.{Bool, true}
 use mathlib.Core.Path.{_≡_}
 use mathlib.Core.Logic.{_↔_}
 use Rattle.certificate.specs.Facts.{Readable}
@@ -9,7 +9,7 @@ use Rattle.certificate.specs.Layout.{maxPullSum, linksOf, turnsOf, signalsOf, c
 use Rattle.network.specs.Network.{Network, networkOf, isGreen, limitOf, entryLimit}
 use Rattle.network.specs.Flow.{gross, next}
 use Rattle.network.specs.Conditions.{pullSum, screeningOf}
-use Rattle.network.specs.Image.{lowEnd, highEnd}
+use Rattle.network.specs.Image.{lowEnd, highEnd, exceedsCap}
 use Rattle.network.specs.Sound.{Sound, Pushes, Within}
 
 -- Monotone (004, Theorem 1): what pushes link l higher leaves it at least as high, before the cut at cap and after it
@@ -70,6 +70,23 @@ Smallest =
     → ((k : ℕ) → k < N .links → lower k ≤ upper k) → ((k : ℕ) → k < N .links → low k ≤ high k) → (l p q : ℕ)
     → (EachNext N limit lower upper low high l (λ D v. p * (10000 * D) ≤ v * q) → p * 10000 ≤ lowEnd N limit lower upper low l * q)
     × (EachNext N limit lower upper low high l (λ D v. v * q ≤ p * (10000 * D)) → highEnd N limit lower upper high l * q ≤ p * 10000)
+
+-- link l's next queue, not cut at cap, exceeds cap for some queues of the closed box and some arrivals of the arrival box, over some scale
+pub record Exceeds (N : Network) (limit lower upper low high : ℕ → ℕ) (l : ℕ) : Type 0 where
+  pub scale : ℕ
+  pub queues : ℕ → ℕ
+  pub arrivals : ℕ → ℕ
+  pub scale-least : 1 ≤ scale
+  pub inside : Within (N .links) lower upper scale queues
+  pub arriving : Within (N .links) low high scale arrivals
+  pub above : 10000 * (scale * N .cap l) < gross N limit scale queues arrivals l
+
+-- the image says so exactly where that is so
+abbrev pub OverflowIsReal : Type 0
+OverflowIsReal =
+    (N : Network) (green : ℕ → Bool) (limit : ℕ → ℕ) → Sound N green limit → (lower upper low high : ℕ → ℕ)
+    → ((k : ℕ) → k < N .links → lower k ≤ upper k) → ((k : ℕ) → k < N .links → low k ≤ high k) → (l : ℕ) → l < N .links
+    → (exceedsCap N limit lower upper high l ≡ true) ↔ Exceeds N limit lower upper low high l
 
 -- a certificate that passes the tests before 12 is readable, and under each signal its network is sound
 pub record Screened (s : List ℕ) : Type 0 where

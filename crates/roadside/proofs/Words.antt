@@ -9,6 +9,8 @@ use native.Mathlib.Omega.{arith}
 use borrow.Author.Tests.{leb-true, leb-false}
 use lib.Dec.{leb, lit<}
 use lib.ListN.{length, take, length-take}
+use Rattle.certificate.specs.declared.Report.{Report}
+use Rattle.certificate.specs.Loops.{pick}
 use Rattle.certificate.specs.Checks.{refusal, need}
 use Rattle.certificate.specs.Layout.{maxLength, linksOf, signalsOf, boxesOf, entriesOf, cellsOf, greenByteOf, signalOf}
 use Rattle.certificate.specs.Facts.{Readable}
@@ -20,7 +22,9 @@ use Rattle.certificate.proofs.Plain.{readable-of}
 use Rattle.certificate.proofs.Numbers.{of-reading}
 use Rattle.certificate.proofs.Places.{place-fits}
 use Rattle.judging.specs.Verdict.{verdictOf}
-use Rattle.judging.proofs.Verdicts.{count-fits, number-fits, verdict-of-long, refused-reading}
+use Rattle.judging.specs.Overflow.{overflowsOf}
+use Rattle.judging.proofs.Verdicts.{accepted-is-plain, count-fits, number-fits, verdict-of-long, refused-reading}
+use Rattle.judging.proofs.Overflows.{refused-overflows, overflows-fit}
 use Rattle.judging.proofs.PlaceBounds.{places-fit}
 use Rattle.controller.specs.declared.Controller.{Controller}
 use Rattle.controller.specs.declared.Shown.{Shown}
@@ -29,16 +33,23 @@ use Rattle.controller.specs.Query.{showing, refused, queryOf}
 use Rattle.controller.specs.Laws.{HoldsCertificate}
 use Rattle.controller.proofs.Lookups.{by-way}
 use Rattle.packed_state.specs.State.{hasStateSize, heldIn}
-use Rattle.held_state.specs.Held.{loadReport, displayOf}
+use Rattle.held_state.specs.Held.{loadReport, loadOverflows, displayOf}
 use Rattle.detectors.specs.Laws.{PollAnswer}
 use Rattle.detectors.specs.Laws.PollAnswer.{improper, bad, silent, unlisted, passes as succeeds}
 use Rattle.polls.specs.Poll.{pollOf}
 use Rattle.polls.proofs.Answers.{poll-bad, poll-silent, poll-succeeds, poll-shows, poll-refused, poll-numbers}
 use Rattle.answer_words.specs.Words.{DisplayFits, LoadFits}
-use Rattle.answer_words.proofs.Parts.{display-reads-back, report-reads-back}
+use Rattle.answer_words.proofs.Parts.{display-reads-back, verdict-reads-back}
 use Rattle.roadside.specs.Laws.{PollWord, QueryWord, LoadWord}
 
 -- ---- a load
+
+-- the parts of a report, each by itself
+record ReportFits (r : Report) : Type 0 where
+  number : r .number < 256
+  place-a : r .a < 65536
+  place-b : r .b < 4096
+  count : r .count < 268435456
 
 reading-small : (n : ℕ) → ReadingNumber n → n < 256
 reading-small n (up-to-nine h) = omega arith
@@ -64,18 +75,18 @@ stages n least most = ⊎-elim (λ e. inl (sym e)) (λ lt. inr (⊎-elim (λ e. 
 
 -- of bytes that are not much longer than a certificate
 module _ (s : List ℕ) (short : length s ≤ maxLength + 1) where
-  read-fits : Readable s → LoadFits (verdictOf s)
+  read-fits : Readable s → ReportFits (verdictOf s)
   read-fits R = ⊎-elim reading later (number-fits s)
     where
-      fits : verdictOf s .number < 256 → verdictOf s .a < 65536 → verdictOf s .b < 4096 → LoadFits (verdictOf s)
+      fits : verdictOf s .number < 256 → verdictOf s .a < 65536 → verdictOf s .b < 4096 → ReportFits (verdictOf s)
       fits n a b = record { number = n; place-a = a; place-b = b; count = omega (arith, count-small s R, count-fits s) }
 
-      reading : ReadingNumber (verdictOf s .number) → LoadFits (verdictOf s)
+      reading : ReadingNumber (verdictOf s .number) → ReportFits (verdictOf s)
       reading number =
           let p = places-fit s .reading number in
           fits (reading-small _ number) (omega (arith, p .0)) (omega (arith, p .1))
 
-      later : (10 ≤ verdictOf s .number) × (verdictOf s .number ≤ 15) → LoadFits (verdictOf s)
+      later : (10 ≤ verdictOf s .number) × (verdictOf s .number ≤ 15) → ReportFits (verdictOf s)
       later (least, most) =
           let small : verdictOf s .number < 256 = omega arith in
           let header = R .header in
@@ -91,7 +102,7 @@ module _ (s : List ℕ) (short : length s ≤ maxLength + 1) where
           w)
           (stages (verdictOf s .number) least most)
 
-  refused-fits : (readingOf s .number ≡ 0 → ⊥) → LoadFits (verdictOf s)
+  refused-fits : (readingOf s .number ≡ 0 → ⊥) → ReportFits (verdictOf s)
   refused-fits some =
       let r = of-reading s in
       rw (refused-reading s (readingOf s) some (r .number) .1 refl)
@@ -102,22 +113,48 @@ module _ (s : List ℕ) (short : length s ≤ maxLength + 1) where
         count = omega (arith, r .no-count);
       })
 
-  short-fits : LoadFits (verdictOf s)
+  short-fits : ReportFits (verdictOf s)
   short-fits = ⊎-elim (λ z. read-fits (readable-of s z)) refused-fits (passes (readingOf s))
 
-pub verdict-fits : (s : List ℕ) → LoadFits (verdictOf s)
-verdict-fits s = rw (verdict-of-long s) (short-fits (take (maxLength + 1) s) (omega (arith, length-take (maxLength + 1) s)))
+report-fits : (s : List ℕ) → ReportFits (verdictOf s)
+report-fits s = rw (verdict-of-long s) (short-fits (take (maxLength + 1) s) (omega (arith, length-take (maxLength + 1) s)))
 
-pub load-fits : (state s : List ℕ) → LoadFits (loadReport state s)
+-- with the number of entries, which only an acceptance has, and it no place A
+verdict-fits : (s : List ℕ) → LoadFits (verdictOf s) (overflowsOf s)
+verdict-fits s =
+    record {
+      number = report-fits s .number;
+      place-a = ⊎-elim together alone (passes (verdictOf s));
+      place-b = report-fits s .place-b;
+      count = report-fits s .count;
+      accepted = λ z. places-fit s .accepted z .0;
+      refused = refused-overflows s;
+    }
+  where
+    together : verdictOf s .number ≡ 0 → verdictOf s .a + overflowsOf s < 65536
+    together z = omega (arith, places-fit s .accepted z .0, overflows-fit s, accepted-is-plain s .0 z .0 .readable .header .entries-most)
+
+    alone : (verdictOf s .number ≡ 0 → ⊥) → verdictOf s .a + overflowsOf s < 65536
+    alone nonzero = omega (arith, report-fits s .place-a, refused-overflows s nonzero)
+
+pub load-fits : (state s : List ℕ) → LoadFits (loadReport state s) (loadOverflows state s)
 unfolding need
 load-fits state s = go (hasStateSize state)
   where
-    go : (b : Bool) → LoadFits (need b (refusal 18 0) (verdictOf s))
+    go : (b : Bool) → LoadFits (need b (refusal 18 0) (verdictOf s)) (pick b (overflowsOf s) 0)
     go true = verdict-fits s
-    go false = record { number = omega arith; place-a = omega arith; place-b = omega arith; count = omega arith }
+    go false =
+        record {
+          number = omega arith;
+          place-a = omega arith;
+          place-b = omega arith;
+          count = omega arith;
+          accepted = λ z. absurd (omega arith);
+          refused = λ _. refl;
+        }
 
 pub load-word : LoadWord
-load-word state s = report-reads-back (loadReport state s) (load-fits state s)
+load-word state s = verdict-reads-back (loadReport state s) (loadOverflows state s) (load-fits state s)
 
 -- ---- a query or a poll
 

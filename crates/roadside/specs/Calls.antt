@@ -7,9 +7,9 @@ use Rattle.runs.specs.Claim.{RunClaim}
 use Rattle.controller.specs.declared.Shown.{Shown}
 use Rattle.controller.specs.State.{freshState, holding}
 use Rattle.packed_state.specs.State.{heldIn, bytesAfter}
-use Rattle.held_state.specs.Held.{freshReport, loadReport, shownFor, displayOf}
+use Rattle.held_state.specs.Held.{freshReport, loadReport, loadOverflows, shownFor, displayOf}
 use Rattle.polls.specs.Poll.{pollOf}
-use Rattle.answer_words.specs.Words.{displayWord, reportWord, queuesIn}
+use Rattle.answer_words.specs.Words.{displayWord, verdictWord, queuesIn}
 
 -- a fresh state
 abbrev pub FreshCall : List ℕ → List ℕ → ℕ → Type 0
@@ -17,7 +17,7 @@ FreshCall state state' r = (r ≡ freshReport state .number) × (state' ≡ byte
 
 -- a load; every run of an accepted certificate keeps the run claim
 pub record LoadCall (s state state' : List ℕ) (r : ℕ) : Type 0 where
-  pub answer : r ≡ reportWord (loadReport state s)
+  pub answer : r ≡ verdictWord (loadReport state s) (loadOverflows state s)
   pub bytes : state' ≡ bytesAfter (loadReport state s .number) (holding s) state
   pub claim : loadReport state s .number ≡ 0 → RunClaim s
 

@@ -10,11 +10,11 @@ use Rattle.controller.specs.State.{freshState, stored}
 use Rattle.controller.specs.Query.{refused, queryOf}
 use Rattle.controller.specs.Laws.{HoldsCertificate}
 use Rattle.packed_state.specs.State.{stateSize}
-use Rattle.held_state.specs.Held.{loadReport, shownFor, displayOf}
-use Rattle.answer_words.specs.Words.{displayWord, reportWord, DisplayParts, ReportParts, queueSize, queuesIn}
+use Rattle.held_state.specs.Held.{loadReport, loadOverflows, shownFor, displayOf}
+use Rattle.answer_words.specs.Words.{displayWord, verdictWord, DisplayParts, VerdictParts, queueSize, queuesIn}
 use Rattle.roadside.specs.Calls.{polledFor}
 
--- the parts of an answer's number are those of the report, the signal and the green byte, whatever state and bytes are given
+-- the parts of an answer's number are those of the report, the signal and the green byte, or of the verdict, whatever state and bytes are given
 abbrev pub PollWord : Type 0
 PollWord = (state p : List ℕ) → DisplayParts (displayWord (displayOf (polledFor state p))) (displayOf (polledFor state p))
 
@@ -24,7 +24,9 @@ QueryWord =
     → DisplayParts (displayWord (displayOf (shownFor state queues scale))) (displayOf (shownFor state queues scale))
 
 abbrev pub LoadWord : Type 0
-LoadWord = (state s : List ℕ) → ReportParts (reportWord (loadReport state s)) (loadReport state s)
+LoadWord =
+    (state s : List ℕ)
+    → VerdictParts (verdictWord (loadReport state s) (loadOverflows state s)) (loadReport state s) (loadOverflows state s)
 
 -- a state's slice of any other length gets 18 from a poll too (held_state `OtherLengths` has the other calls)
 abbrev pub PollOtherLength : Type 0

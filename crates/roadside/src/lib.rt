@@ -18,7 +18,7 @@ pub extern "C" fn roadside_fresh(state: &mut [u8]) -> u64
 pub extern "C" fn roadside_load(state: &mut [u8], bytes: &[u8]) -> u64
     ensures { λ r. ⌜ LoadCall (now (bytes .entry)) (now (state .entry)) (now (state .exit)) r ⌝ }
 {
-    answer_words::report_word(held_state::load(state, bytes))
+    answer_words::verdict_word(held_state::load(state, bytes))
 }
 
 // What the state that is held shows for queues over a scale, and the next state. Queues are four bytes each.

@@ -1,12 +1,13 @@
 -- Judging goes entry by entry: an entry judged alone is a refusal, which is the answer, or passes its count on. Assumes nothing.
 use Prim.Native.Nat.{ℕ, zero, suc, _+_, _-_, _≤_, _<_}
 use mathlib.Core.List.{List}
-use mathlib.Core.Bool.{cond}
+use mathlib.Core.Bool.{Bool, cond}
 use mathlib.Core.Path.{_≡_, refl, sym, ap, _∙_}
 use mathlib.Core.Logic.{⊎-elim}
+use native.Mathlib.Numerals.{add-one}
 use lib.Dec.{eqb}
 use Rattle.certificate.specs.declared.Report.{Report}
-use Rattle.certificate.specs.Loops.{rounds, loopFrom}
+use Rattle.certificate.specs.Loops.{pick, sumTo, rounds, loopFrom}
 use Rattle.certificate.specs.Checks.{orElse}
 use Rattle.certificate.specs.Layout.{cellsOf, boxesOf, entriesOf}
 use Rattle.certificate.proofs.Tests.{passes, or-next, or-stop}
@@ -14,6 +15,7 @@ use Rattle.octets.proofs.Cases.{first, second}
 use Rattle.certificate.proofs.Loops.{loop-round, loop-end}
 use borrow.Author.Tests.{eq-eqb, ne-eqb}
 use Rattle.judging.specs.EntryTests.{standingFault, cellRound, boxRound, entryRound, accepted, judgingFrom}
+use Rattle.judging.specs.Overflow.{entryOverflows, overflowsBefore}
 use Rattle.entry_search.specs.Search.{boxesFrom}
 use Rattle.verdict.specs.Entries.{entryAlone}
 
@@ -98,6 +100,16 @@ module _ (s : List ℕ) (e n : ℕ) (f : Report) (standing : f ≡ standingFault
   pub searched : (r : Report) → f .number ≡ 0 → r ≡ boxesFrom s e 0 n → r ≡ entryAlone s e n
   unfolding entryAlone entryRound boxesFrom
   searched r z q = second f _ _ r standing z q
+
+-- one entry more: it counts where it overflows
+pub one-more : (s : List ℕ) (e : ℕ) {n one : ℕ} {over : Bool} → n ≡ overflowsBefore s e → over ≡ entryOverflows s e → one ≡ pick over 1 0
+    → n + one ≡ overflowsBefore s (e + 1)
+unfolding overflowsBefore sumTo
+one-more s e before over is = rw (add-one, before, is, over)
+
+pub none-before : (s : List ℕ) → 0 ≡ overflowsBefore s 0
+unfolding overflowsBefore sumTo
+none-before s = refl
 
 -- the loop over entries: go on, stop, end
 module _ (s : List ℕ) (entries e n : ℕ) (count : entries ≡ entriesOf s) (t : Report) where

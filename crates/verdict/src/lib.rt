@@ -1,7 +1,8 @@
-// The verdict of any bytes: all tests before 12, then every entry in order.
+// The verdict of any bytes: all tests before 12, then every entry in order; and how many entries may turn arrivals away.
 ghost use mathlib.Core.Path.{_≡_};
 ghost use Prim.Native.Nat.{_+_, _*_, _<_, _≤_};
 ghost use lib.ListN.{length};
+ghost use Rattle.certificate.specs.Loops.{pick};
 ghost use Rattle.certificate.specs.Layout.{maxBoxes, maxModes, maxCells, entriesOf, boxesOf, cellsOf};
 ghost use Rattle.certificate.specs.Facts.{Readable};
 ghost use Rattle.reading.specs.ReadingResults.{LaidOut, ReadAs};
@@ -11,8 +12,9 @@ ghost use Rattle.cell_tables.specs.Tables.{GridOf, DigitsOf};
 ghost use Rattle.rank_tables.specs.Index.{RanksOf};
 ghost use Rattle.judging.specs.EntryTests.{judgingFrom};
 ghost use Rattle.entry_setup.specs.Tables.{CapsOf, TablesOf};
-ghost use Rattle.verdict.specs.Entries.{entryAlone};
+ghost use Rattle.verdict.specs.Entries.{entryAlone, JudgedAs};
 ghost use Rattle.judging.specs.Verdict.{verdictOf};
+ghost use Rattle.judging.specs.Overflow.{entryOverflows, overflowsOf};
 use cell_tables::digits as cells;
 use cell_tables::tables;
 use certificate::Report;
@@ -28,6 +30,18 @@ use rank_tables::ranks;
 use reading::Layout;
 use reading::Reading;
 
+// The verdict: the report, and in an acceptance the number of entries that may turn arrivals away (0 in a refusal).
+pub struct Verdict {
+    pub report: Report,
+    pub overflows: u32,
+}
+
+// The verdict with the layout of an accepted certificate.
+pub struct Judged {
+    pub reading: Reading,
+    pub overflows: u32,
+}
+
 // One entry judged alone: its standing, then its successors.
 fn judge_entry(
     s: &[u8],
@@ -40,9 +54,9 @@ fn judge_entry(
     runs: &mut [u16],
     e: usize,
     count: u32,
-) -> Report
+) -> search::Searched
     requires { ⌜ LaidOut (now s) layout × TablesOf (now s) tables (now edges) (now arrivals) × RanksOf (now s) (now ranks) × (e < entriesOf (now s)) × (count ≤ maxBoxes * maxCells * e) × DigitsOf (now s) (now digits) × (length (now runs) ≡ maxCells) ⌝ }
-    ensures { λ r. ⌜ (r ≡ entryAlone (now (s .entry)) e count) × (r .count ≤ maxBoxes * maxCells * (e + 1)) × (length (now (runs .exit)) ≡ maxCells) ⌝ }
+    ensures { λ r. ⌜ (r .report ≡ entryAlone (now (s .entry)) e count) × (r .report .count ≤ maxBoxes * maxCells * (e + 1)) × (length (now (runs .exit)) ≡ maxCells) × (r .report .number ≡ 0 → r .over ≡ entryOverflows (now (s .entry)) e) ⌝ }
 {
     let task = entry::task_of(s, layout, e);
     let c = entries::cell_of(s, layout.entries_start, e);
@@ -51,13 +65,26 @@ fn judge_entry(
     let upper = cell.upper;
     let f = standing::check_standing(s, tables.links, e, task.rank, &upper, count);
     if f.number != 0 {
-        return f;
+        return search::Searched {
+            report: f,
+            over: false,
+        };
     }
     let before = entry::entry_ends(s, layout, &tables.first_turns, e, &lower, &upper);
     search::search_boxes(s, task, tables, ranks, edges, arrivals, runs, before, count)
 }
 
-// Entries in order: the first refusal, or accepted with the count.
+// 1 for an entry that may turn arrivals away, else 0.
+fn counted(over: bool) -> u32
+    ensures { λ r. ⌜ r ≡ pick over 1 0 ⌝ }
+{
+    if over {
+        return 1;
+    }
+    0
+}
+
+// Entries in order: the first refusal, or accepted with the count and the number of entries that may turn arrivals away.
 fn judge_entries(
     s: &[u8],
     layout: Layout,
@@ -67,12 +94,13 @@ fn judge_entries(
     edges: &[usize; tables::EDGES],
     arrivals: &[usize; amounts::ARRIVALS],
     runs: &mut [u16],
-) -> Report
+) -> Verdict
     requires { ⌜ LaidOut (now s) layout × TablesOf (now s) tables (now edges) (now arrivals) × RanksOf (now s) (now ranks) × DigitsOf (now s) (now digits) × (length (now runs) ≡ maxCells) ⌝ }
-    ensures { λ r. ⌜ r ≡ judgingFrom (now (s .entry)) 0 0 ⌝ }
+    ensures { λ r. ⌜ JudgedAs (now (s .entry)) (judgingFrom (now (s .entry)) 0 0) r ⌝ }
 {
     let entries = layout.entries;
     let mut count: u32 = 0;
+    let mut overflows: u32 = 0;
     for e in 0..entries {
         let r = judge_entry(
             s,
@@ -86,12 +114,18 @@ fn judge_entries(
             e,
             count,
         );
-        if r.number != 0 {
-            return r;
+        let report = r.report;
+        if report.number != 0 {
+            return Verdict {
+                report,
+                overflows: 0,
+            };
         }
-        count = r.count;
+        count = report.count;
+        overflows += counted(r.over);
     }
-    octets::report(0, 0, 0, count)
+    let report = octets::report(0, 0, 0, count);
+    Verdict { report, overflows }
 }
 
 // The tables of the links.
@@ -126,9 +160,9 @@ fn rank_table(s: &[u8], layout: Layout, ranks: &mut [u32])
 }
 
 // Makes the tables, once, and judges by them.
-fn judge_screened(s: &[u8], layout: Layout) -> Report
+fn judge_screened(s: &[u8], layout: Layout) -> Verdict
     requires { ⌜ Screened (now s) × LaidOut (now s) layout ⌝ }
-    ensures { λ r. ⌜ r ≡ judgingFrom (now (s .entry)) 0 0 ⌝ }
+    ensures { λ r. ⌜ JudgedAs (now (s .entry)) (judgingFrom (now (s .entry)) 0 0) r ⌝ }
 {
     let links = layout.links;
     let places = layout.grids;
@@ -155,26 +189,42 @@ fn judge_screened(s: &[u8], layout: Layout) -> Report
 }
 
 // The verdict, and the layout where it is no refusal.
-pub fn judge_with_layout(s: &[u8]) -> Reading
-    ensures { λ r. ⌜ ReadAs (now (s .entry)) (verdictOf (now (s .entry))) r ⌝ }
+pub fn judge_with_layout(s: &[u8]) -> Judged
+    ensures { λ r. ⌜ ReadAs (now (s .entry)) (verdictOf (now (s .entry))) (r .reading) × (r .overflows ≡ overflowsOf (now (s .entry))) ⌝ }
 {
     let found = screening::screen(s);
     let f = found.report;
     if f.number != 0 {
-        return found;
+        return Judged {
+            reading: found,
+            overflows: 0,
+        };
     }
     let layout = found.layout;
-    let report = judge_screened(s, layout);
+    let verdict = judge_screened(s, layout);
+    let report = verdict.report;
+    let overflows = verdict.overflows;
     if report.number != 0 {
-        return reading::refused(report);
+        return Judged {
+            reading: reading::refused(report),
+            overflows,
+        };
     }
-    Reading { report, layout }
+    Judged {
+        reading: Reading { report, layout },
+        overflows,
+    }
 }
 
 // The verdict.
-pub fn judge(s: &[u8]) -> Report
-    ensures { λ r. ⌜ (r ≡ verdictOf (now (s .entry))) × (r .count ≤ entriesOf (now (s .entry)) * boxesOf (now (s .entry)) * cellsOf (now (s .entry))) ⌝ }
+pub fn judge(s: &[u8]) -> Verdict
+    ensures { λ r. ⌜ (r .report ≡ verdictOf (now (s .entry))) × (r .overflows ≡ overflowsOf (now (s .entry))) × (r .report .count ≤ entriesOf (now (s .entry)) * boxesOf (now (s .entry)) * cellsOf (now (s .entry))) × (r .overflows ≤ entriesOf (now (s .entry))) ⌝ }
 {
-    let found = judge_with_layout(s);
-    found.report
+    let judged = judge_with_layout(s);
+    let found = judged.reading;
+    let report = found.report;
+    Verdict {
+        report,
+        overflows: judged.overflows,
+    }
 }

@@ -16,7 +16,7 @@ use beside::Beside;
 use calls::{Call, Ready};
 use measure::medians;
 use sample::{Asked, Sample};
-use second::Report;
+use second::Verdict;
 use table::Other;
 
 /// Which certificates are timed.
@@ -70,12 +70,12 @@ fn row(call: Call, sample: &Sample) -> Result<Row, String> {
     let has_other = matches!(call, Call::Judge | Call::Load | Call::Poll(_) | Call::Write);
     let times = medians(&mut functions[..if has_other { 3 } else { 2 }]);
     ready.check()?;
-    let lookups = match call {
-        Call::Judge | Call::Load | Call::List => fast::judge(&sample.bytes).count,
-        Call::Screen | Call::Query(_) | Call::Poll(_) | Call::Write => 0,
+    let due = match call {
+        Call::Judge | Call::Load | Call::List => fast::judge(&sample.bytes),
+        Call::Screen | Call::Query(_) | Call::Poll(_) | Call::Write => Verdict::accepted(0, 0),
     };
     for verdict in [beside.verdict, other.verdict].into_iter().flatten() {
-        if verdict != Report::SUCCESS.counting(lookups) {
+        if verdict != due || !verdict.is_accepted() {
             return Err(format!("{} beside {call:?}: {verdict:?}", sample.name));
         }
     }
@@ -83,7 +83,7 @@ fn row(call: Call, sample: &Sample) -> Result<Row, String> {
     Ok(Row {
         call: name,
         certificate: format!("{} {asked}", sample.name).trim_end().to_string(),
-        lookups,
+        lookups: due.report.count,
         library: times[0],
         peer: times[1],
         other: match call {

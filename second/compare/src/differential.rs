@@ -81,11 +81,13 @@ impl Run {
     fn step(&mut self, numbers: &mut Numbers, due: Due) -> Agreed<()> {
         self.draw(numbers);
         screen(&self.bytes)?;
-        let report = self.sides.load(&self.bytes)?;
-        self.tally.loads.add(report.number);
-        judge(&self.bytes, report)?;
-        if report.number == 0 {
+        let verdict = self.sides.load(&self.bytes)?;
+        self.tally.loads.add(verdict.report.number);
+        judge(&self.bytes, verdict)?;
+        if verdict.is_accepted() {
             self.held = read(&self.bytes).ok();
+            let entries = self.held.as_ref().map_or(0, |held| held.entries.len());
+            self.tally.overflows.add(verdict.overflows, entries as u64);
         }
         if numbers.chance(10) {
             self.hand(numbers);

@@ -2,7 +2,7 @@
 //!
 //! Image ends before arrivals are taken once an entry, from the one corner that the signs of the flow rule name for
 //! each end. Successors are a range of intervals on each link; each of them is looked up in a table of ranks,
-//! a block of cells at a time.
+//! a block of cells at a time. A link may exceed its cap where its high end does.
 
 mod blocks;
 mod conditions;

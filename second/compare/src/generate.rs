@@ -1,5 +1,6 @@
 //! Random certificates and calls.
 
+mod arrivals;
 pub mod bytes;
 mod calls;
 mod damage;
@@ -54,6 +55,6 @@ pub fn certificate(numbers: &mut Numbers, size: Size) -> Certificate {
 fn roads(numbers: &mut Numbers, size: Size) -> Certificate {
     let mut drawn = network::network(numbers, size);
     grid::add_grid(&mut drawn, numbers, size);
-    grid::add_arrivals(&mut drawn, numbers);
+    arrivals::add_arrivals(&mut drawn, numbers);
     drawn
 }

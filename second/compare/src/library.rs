@@ -1,8 +1,9 @@
 //! The exported functions of the library, as safe functions on slices.
 //!
-//! A report receives number, place A, place B and count; a query's answer also signal and green byte.
-//! Each function returns the number. A report or answer that is too short gives `TOO_SHORT` and changes nothing; a state
-//! of another length than `STATE_SIZE` gives `NO_STATE`, in the report too, and its bytes stay.
+//! A report receives number, place A, place B and count; a verdict, which `judge` and `load` give, also how many
+//! entries may overflow, and a query's answer also signal and green byte. Each function returns the number. A report,
+//! verdict or answer that is too short gives `TOO_SHORT` and changes nothing; a state of another length than
+//! `STATE_SIZE` gives `NO_STATE`, in the report too, and its bytes stay.
 
 use second::State;
 
@@ -12,24 +13,26 @@ pub const LENGTH_SIZE: usize = 8;
 pub const STATE_SIZE: usize = State::CAPACITY + LENGTH_SIZE + 1;
 /// Numbers of a report.
 pub const REPORT_SIZE: usize = 4;
+/// Numbers of a verdict.
+pub const VERDICT_SIZE: usize = 5;
 /// Numbers of a query's answer.
 pub const SHOWN_SIZE: usize = 6;
-/// The result for a report or an answer that is too short.
+/// The result for a report, a verdict or an answer that is too short.
 pub const TOO_SHORT: u32 = 255;
 /// The result for a state of another length.
 pub const NO_STATE: u32 = 18;
 
 extern "C" {
     fn dergvost_screen(s: *const u8, s_len: usize, report: *mut u32, report_len: usize) -> u32;
-    fn dergvost_judge(s: *const u8, s_len: usize, report: *mut u32, report_len: usize) -> u32;
+    fn dergvost_judge(s: *const u8, s_len: usize, verdict: *mut u32, verdict_len: usize) -> u32;
     fn dergvost_fresh(state: *mut u8, state_len: usize) -> u32;
     fn dergvost_load(
         state: *mut u8,
         state_len: usize,
         s: *const u8,
         s_len: usize,
-        report: *mut u32,
-        report_len: usize,
+        verdict: *mut u32,
+        verdict_len: usize,
     ) -> u32;
     fn dergvost_query(
         state: *mut u8,
@@ -73,14 +76,14 @@ pub fn screen(bytes: &[u8], report: &mut [u32]) -> u32 {
 }
 
 /// The verdict.
-pub fn judge(bytes: &[u8], report: &mut [u32]) -> u32 {
+pub fn judge(bytes: &[u8], verdict: &mut [u32]) -> u32 {
     // SAFETY: as for `screen`.
     unsafe {
         dergvost_judge(
             bytes.as_ptr(),
             bytes.len(),
-            report.as_mut_ptr(),
-            report.len(),
+            verdict.as_mut_ptr(),
+            verdict.len(),
         )
     }
 }
@@ -92,7 +95,7 @@ pub fn fresh(state: &mut [u8]) -> u32 {
 }
 
 /// Judges the bytes, and stores them if they are accepted.
-pub fn load(state: &mut [u8], bytes: &[u8], report: &mut [u32]) -> u32 {
+pub fn load(state: &mut [u8], bytes: &[u8], verdict: &mut [u32]) -> u32 {
     // SAFETY: as for `screen`; the slices do not overlap.
     unsafe {
         dergvost_load(
@@ -100,8 +103,8 @@ pub fn load(state: &mut [u8], bytes: &[u8], report: &mut [u32]) -> u32 {
             state.len(),
             bytes.as_ptr(),
             bytes.len(),
-            report.as_mut_ptr(),
-            report.len(),
+            verdict.as_mut_ptr(),
+            verdict.len(),
         )
     }
 }

@@ -5,7 +5,7 @@
 
 use crate::library::SHOWN_SIZE;
 use second::state::Answer;
-use second::Report;
+use second::Verdict;
 
 extern "C" {
     fn roadside_fresh(state: *mut u8, state_len: usize) -> u64;
@@ -72,11 +72,16 @@ fn packed(fields: &[(u64, u32, u32)]) -> u64 {
     })
 }
 
-/// The result of a load.
-pub fn packed_report(report: Report) -> u64 {
+/// The result of a load. An acceptance has no place A; its number of overflowing entries stands there.
+pub fn packed_verdict(verdict: Verdict) -> u64 {
+    let report = verdict.report;
+    let place = match report.number {
+        0 => verdict.overflows,
+        _ => report.a,
+    };
     packed(&[
         (report.number.into(), 0, 8),
-        (report.a, 8, 24),
+        (place, 8, 24),
         (report.b, 24, 36),
         (report.count, 36, 64),
     ])
@@ -96,10 +101,13 @@ pub fn packed_answer(answer: Answer) -> u64 {
 }
 
 /// The result of a load, for a reader.
-pub fn shown_report(result: u64) -> String {
-    let (number, a) = (result & 255, result >> 8 & 0xFFFF);
+pub fn shown_verdict(result: u64) -> String {
+    let (number, place) = (result & 255, result >> 8 & 0xFFFF);
     let (b, count) = (result >> 24 & 0xFFF, result >> 36);
-    format!("{number} {a} {b} {count}")
+    match number {
+        0 => format!("0 0 {b} {count} overflow {place}"),
+        _ => format!("{number} {place} {b} {count}"),
+    }
 }
 
 /// The result of a query or a poll, for a reader.

@@ -6,10 +6,10 @@ mod roadside;
 pub use roadside::agree_results;
 
 use crate::generate::Query;
-use crate::library::{self, LENGTH_SIZE, REPORT_SIZE, SHOWN_SIZE};
-use crate::roadside::{packed_answer, packed_report, queue_bytes, shown_answer, shown_report};
+use crate::library::{self, LENGTH_SIZE, REPORT_SIZE, SHOWN_SIZE, VERDICT_SIZE};
+use crate::roadside::{packed_answer, packed_verdict, queue_bytes, shown_answer, shown_verdict};
 use second::conditions::read_sound;
-use second::{listing, Report, State};
+use second::{listing, Report, State, Verdict};
 
 /// What stands in a report before a call.
 const BEFORE: u32 = 0xA5A5_A5A5;
@@ -44,15 +44,25 @@ pub fn lent_buffer(size: usize) -> Vec<u8> {
     (0..size).map(|i| ((i % 256 * 7 + 3) % 256) as u8).collect()
 }
 
+/// A number as the library gives it.
+fn number(value: u64) -> u32 {
+    u32::try_from(value).unwrap_or(u32::MAX)
+}
+
 /// The numbers of a report.
 pub fn report_numbers(report: Report) -> [u32; REPORT_SIZE] {
-    let number = |value: u64| u32::try_from(value).unwrap_or(u32::MAX);
     [
         report.number,
         number(report.a),
         number(report.b),
         number(report.count),
     ]
+}
+
+/// The numbers of a verdict.
+pub fn verdict_numbers(verdict: Verdict) -> [u32; VERDICT_SIZE] {
+    let [result, a, b, count] = report_numbers(verdict.report);
+    [result, a, b, count, number(verdict.overflows)]
 }
 
 /// The second checker's numbers against a result of the library and what it has put down.
@@ -103,15 +113,15 @@ pub fn screen(bytes: &[u8]) -> Agreed<Report> {
     Ok(own)
 }
 
-/// The verdict of the library against a report of the second checker.
-pub fn judge(bytes: &[u8], own: Report) -> Agreed<()> {
-    let mut report = [BEFORE; REPORT_SIZE];
-    let number = library::judge(bytes, &mut report);
+/// The verdict of the library against that of the second checker.
+pub fn judge(bytes: &[u8], own: Verdict) -> Agreed<()> {
+    let mut verdict = [BEFORE; VERDICT_SIZE];
+    let number = library::judge(bytes, &mut verdict);
     agree(
         || "judge".to_string(),
-        &report_numbers(own),
+        &verdict_numbers(own),
         number,
-        &report,
+        &verdict,
     )
 }
 
@@ -167,18 +177,20 @@ impl Sides {
         let result = library::fresh(&mut self.library);
         agree(call, &[0], result, &[result])?;
         self.agree_states(call)?;
-        self.agree_roadside(call, shown_report, 0, before, crate::roadside::fresh)
+        self.agree_roadside(call, shown_verdict, 0, before, crate::roadside::fresh)
     }
 
-    pub fn load(&mut self, bytes: &[u8]) -> Agreed<Report> {
+    /// The result of the roadside crate has all but how many entries may overflow.
+    pub fn load(&mut self, bytes: &[u8]) -> Agreed<Verdict> {
         let call = || "load".to_string();
         let before = self.library.clone();
         let own = self.own.load(bytes);
-        let mut report = [BEFORE; REPORT_SIZE];
-        let number = library::load(&mut self.library, bytes, &mut report);
-        agree(call, &report_numbers(own), number, &report)?;
+        let mut verdict = [BEFORE; VERDICT_SIZE];
+        let number = library::load(&mut self.library, bytes, &mut verdict);
+        agree(call, &verdict_numbers(own), number, &verdict)?;
         self.agree_states(call)?;
-        self.agree_roadside(call, shown_report, packed_report(own), before, |state| {
+        let due = packed_verdict(own);
+        self.agree_roadside(call, shown_verdict, due, before, |state| {
             crate::roadside::load(state, bytes)
         })?;
         Ok(own)

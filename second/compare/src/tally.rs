@@ -1,4 +1,4 @@
-//! How often each result number came.
+//! How often each result number came, and entries that may overflow.
 
 use std::fmt;
 
@@ -38,10 +38,53 @@ impl fmt::Display for Numbered {
 /// The refusals of a load, in the order of their tests.
 pub const LOAD_REFUSALS: [usize; 16] = [1, 2, 3, 4, 5, 6, 7, 8, 9, 22, 10, 11, 12, 13, 14, 15];
 
+/// Entries that may overflow, of accepted loads.
+#[derive(Clone, Debug, Default)]
+pub struct Overflows {
+    /// Loads that have none, some but not all, and all entries of this kind.
+    pub none: u64,
+    pub some: u64,
+    pub all: u64,
+    /// Such entries of all loads.
+    pub sum: u64,
+}
+
+impl Overflows {
+    /// Takes an accepted load by its number and how many entries it has.
+    pub fn add(&mut self, overflows: u64, entries: u64) {
+        match overflows {
+            0 => self.none += 1,
+            all if all == entries => self.all += 1,
+            _ => self.some += 1,
+        }
+        self.sum += overflows;
+    }
+
+    /// Loads whose number is above 0.
+    pub fn loads(&self) -> u64 {
+        self.some + self.all
+    }
+}
+
+impl fmt::Display for Overflows {
+    fn fmt(&self, out: &mut fmt::Formatter<'_>) -> fmt::Result {
+        write!(
+            out,
+            "{} loads with a number above 0 ({} of some entries, {} of all), {} entries together; {} loads with 0",
+            self.loads(),
+            self.some,
+            self.all,
+            self.sum,
+            self.none
+        )
+    }
+}
+
 /// All calls of a comparison.
 #[derive(Clone, Debug, Default)]
 pub struct Tally {
     pub loads: Numbered,
+    pub overflows: Overflows,
     pub queries: Numbered,
     pub polls: Numbered,
     pub writes: Numbered,
@@ -52,6 +95,7 @@ impl fmt::Display for Tally {
     fn fmt(&self, out: &mut fmt::Formatter<'_>) -> fmt::Result {
         let share = 100.0 * self.loads.of(0) as f64 / self.loads.all().max(1) as f64;
         writeln!(out, "loads: {} accepted ({share:.1} %)", self.loads.of(0))?;
+        writeln!(out, "  overflows: {}", self.overflows)?;
         for number in LOAD_REFUSALS {
             writeln!(out, "  refused {number}: {}", self.loads.of(number))?;
         }

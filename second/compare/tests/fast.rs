@@ -8,7 +8,7 @@ use compare::sides::state_bytes;
 use compare::{fast, peer, samples};
 use second::conditions::read_sound;
 use second::text::encode;
-use second::{listing, Report, State};
+use second::{listing, Report, State, Verdict};
 
 fn screened(bytes: &[u8]) -> Report {
     match read_sound(bytes) {
@@ -17,14 +17,14 @@ fn screened(bytes: &[u8]) -> Report {
     }
 }
 
-fn agrees(bytes: &[u8]) -> Report {
-    let (text, report) = listing(bytes);
-    assert_eq!(fast::judge(bytes), report);
-    assert_eq!(peer::judge(bytes), report);
+fn agrees(bytes: &[u8]) -> Verdict {
+    let (text, verdict) = listing(bytes);
+    assert_eq!(fast::judge(bytes), verdict);
+    assert_eq!(peer::judge(bytes), verdict);
     assert_eq!(fast::screen(bytes), screened(bytes));
     lists(fast::listing, bytes, &text);
     lists(peer::listing, bytes, &text);
-    report
+    verdict
 }
 
 fn lists(listing: impl Fn(&[u8], &mut [u8]) -> Option<usize>, bytes: &[u8], text: &str) {
@@ -41,12 +41,13 @@ fn on_generated_certificates() {
     for part in 0..1_500 {
         let mut numbers = Numbers::of(3, part);
         let drawn = certificate(&mut numbers, Size::Small);
-        if agrees(&bytes_of(&drawn)).number == 0 {
+        if agrees(&bytes_of(&drawn)).is_accepted() {
             accepted += 1;
             ranked += usize::from(drawn.entries.iter().any(|entry| entry.rank > 0));
         }
         for _ in 0..2 {
-            refused[agrees(&damaged(&drawn, &mut numbers)).number as usize] += 1;
+            let verdict = agrees(&damaged(&drawn, &mut numbers));
+            refused[verdict.report.number as usize] += 1;
         }
     }
     assert!(accepted > 1_400, "{accepted}");
@@ -63,7 +64,7 @@ fn on_spoilt_entries() {
         let drawn = certificate(&mut numbers, Size::Small);
         for way in Way::ALL {
             let (bytes, due) = spoilt(&drawn, way, &mut numbers);
-            assert_eq!(agrees(&bytes), due, "{way:?}");
+            assert_eq!(agrees(&bytes), Verdict::refused(due), "{way:?}");
             let mut own = State::by_hand(&bytes, bytes.len(), 0);
             let mut state = state_bytes(&own);
             let poll = any_poll(&drawn, 0, &mut numbers);
@@ -105,18 +106,20 @@ fn on_small_changes() {
 /// Sizes and verdicts of the samples; the second checker takes half a minute for each of the last two.
 #[test]
 fn on_samples() {
-    let count = |count| Report::SUCCESS.counting(count);
-    assert_eq!(agrees(&samples::listed()), count(4));
+    assert_eq!(agrees(&samples::listed()), Verdict::accepted(4, 0));
     let typical = samples::typical();
-    assert_eq!(agrees(&typical).number, 0);
+    assert_eq!(agrees(&typical), Verdict::accepted(15_370, 113));
     assert_eq!(read_sound(&typical).unwrap().entries.len(), 625);
     let largest = samples::largest();
-    assert_eq!(fast::judge(&largest).number, 0);
+    assert_eq!(fast::judge(&largest), Verdict::accepted(13_420_164, 3_982));
     assert_eq!(peer::judge(&largest), fast::judge(&largest));
     let read = read_sound(&largest).unwrap();
     assert_eq!((read.turns.len(), read.entries.len()), (32, 4_096));
     let worst = samples::worst();
-    assert_eq!(fast::judge(&worst), count(4_096 * 8 * 4_096));
+    assert_eq!(
+        fast::judge(&worst),
+        Verdict::accepted(4_096 * 8 * 4_096, 4_096)
+    );
     assert_eq!(peer::judge(&worst), fast::judge(&worst));
 }
 
@@ -136,9 +139,9 @@ fn on_damaged_samples() {
                 copy.entries[at].rank ^= numbers.wide(1, 3);
             }
             let copy = bytes_of(&copy);
-            let report = peer::judge(&copy);
-            assert_eq!(report, fast::judge(&copy));
-            seen[report.number as usize] += 1;
+            let verdict = peer::judge(&copy);
+            assert_eq!(verdict, fast::judge(&copy));
+            seen[verdict.report.number as usize] += 1;
         }
         assert!(seen[0] < 20, "{seen:?}");
     }
@@ -157,10 +160,10 @@ fn on_the_greatest_rank() {
         entry cell 1 mode 0 signal 1 next 0 rank 65535\n\
         end\n";
     let bytes = encode(text).unwrap();
-    assert_eq!(agrees(&bytes), Report::SUCCESS.counting(3));
+    assert_eq!(agrees(&bytes), Verdict::accepted(3, 0));
     let equal = text.replace("signal 1", "signal 0");
     let refused = Report::at(15, 1).and(1).counting(3);
-    assert_eq!(agrees(&encode(&equal).unwrap()), refused);
+    assert_eq!(agrees(&encode(&equal).unwrap()), Verdict::refused(refused));
 }
 
 /// Polls by the peer, on states made by hand around certificates, damaged ones too.

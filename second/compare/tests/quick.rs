@@ -8,7 +8,7 @@ use compare::samples;
 use compare::sides::{screen, Agreed, Sides};
 use compare::tally::LOAD_REFUSALS;
 use second::conditions::read_sound;
-use second::{Certificate, Report, State};
+use second::{Certificate, Report, State, Verdict};
 
 #[test]
 fn library_and_second_checker_agree() {
@@ -29,6 +29,11 @@ fn library_and_second_checker_agree() {
     for number in [9, 22] {
         assert!(tally.loads.of(number) > 20, "few {number}\n{tally}");
     }
+    let overflows = &tally.overflows;
+    for kind in [overflows.none, overflows.some, overflows.all] {
+        assert!(kind * 10 > tally.loads.of(0), "{tally}");
+    }
+    assert!(overflows.sum > tally.loads.of(0), "{tally}");
     for number in [0, 16, 18, 19] {
         assert!(tally.queries.of(number) > 100, "few {number}\n{tally}");
     }
@@ -65,7 +70,7 @@ fn refused_alike(
 ) -> Agreed<()> {
     assert_eq!(screen(bytes)?, due);
     let mut sides = Sides::of(State::by_hand(bytes, bytes.len(), 0));
-    assert_eq!(sides.load(bytes)?, due);
+    assert_eq!(sides.load(bytes)?, Verdict::refused(due));
     let no_certificate = Report::refusal(18);
     let query = sides.query(&any_query(certificate, numbers))?;
     assert_eq!(query, no_certificate);

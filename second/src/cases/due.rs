@@ -1,7 +1,7 @@
 //! Reading a `.due` file.
 
 use super::stored::Numbered;
-use crate::report::Report;
+use crate::report::{Report, Verdict};
 use crate::text::{Fault, Words};
 use std::fmt;
 
@@ -13,7 +13,7 @@ const MOST_NUMBER: u64 = 28;
 #[derive(Clone, Debug, PartialEq, Eq)]
 pub enum Due {
     Load {
-        report: Report,
+        verdict: Verdict,
         mode: u8,
         length: usize,
     },
@@ -119,14 +119,25 @@ fn read_result(words: &mut Words) -> Result<Due, String> {
 }
 
 fn read_load(words: &mut Words) -> Result<Due, String> {
-    let report = read_report(words)?;
+    let verdict = read_verdict(words)?;
     let mode = read_byte(words, "mode")?;
     let length = read_size(words, "length")?;
     Ok(Due::Load {
-        report,
+        verdict,
         mode,
         length,
     })
+}
+
+/// A report; an acceptance also has how many entries may overflow.
+fn read_verdict(words: &mut Words) -> Result<Verdict, String> {
+    let report = read_report(words)?;
+    let mut overflows = 0;
+    if report.number == 0 {
+        words.must_take("overflow")?;
+        overflows = words.number("how many entries may overflow", u64::MAX)?;
+    }
+    Ok(Verdict { report, overflows })
 }
 
 fn read_shown(words: &mut Words) -> Result<Shown, String> {
@@ -193,10 +204,10 @@ impl fmt::Display for Due {
     fn fmt(&self, out: &mut fmt::Formatter<'_>) -> fmt::Result {
         match self {
             Due::Load {
-                report,
+                verdict,
                 mode,
                 length,
-            } => write!(out, "load {report} mode {mode} length {length}"),
+            } => write!(out, "load {verdict} mode {mode} length {length}"),
             Due::Query(shown) | Due::Poll(shown) => write!(
                 out,
                 "{} {} signal {} green {:02X} mode {}",

@@ -1,7 +1,7 @@
 //! What a test program that is fed the stream of the stored cases must print, by the due results alone.
 //!
 //! - for each case `case N`, counted from 0
-//! - load: `load NUMBER A B COUNT mode M length N`
+//! - load: `load NUMBER A B COUNT mode M length N`; with NUMBER 0 `overflow E` stands before `mode`
 //! - query: `query NUMBER A B COUNT signal S green G mode M`
 //! - poll: `poll NUMBER A B COUNT signal S green G mode M`
 //! - write: `write NUMBER A B COUNT sum H`, H the hash of the whole buffer after the call

@@ -86,10 +86,10 @@ fn make(state: &mut State, call: &Call, certificates: &Certificates) -> Option<G
             None
         }
         Call::Load { name } => {
-            let report = state.load(bytes(certificates, name));
+            let verdict = state.load(bytes(certificates, name));
             let (mode, length) = (state.mode, state.length);
             Some(Got::Told(Due::Load {
-                report,
+                verdict,
                 mode,
                 length,
             }))

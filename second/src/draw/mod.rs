@@ -19,7 +19,7 @@ mod verdict;
 use crate::certificate::Certificate;
 use crate::judging::judge;
 use crate::reading::read;
-use crate::report::Report;
+use crate::report::Verdict;
 use panel::Panel;
 use panels::Panels;
 use shades::Shades;
@@ -29,44 +29,45 @@ use svg::{Anchor, Svg};
 
 /// The picture as SVG, and the verdict that it shows. The cells drawn are those of the two links named, else of the
 /// first two. Links that cannot be drawn are told as a fault; a certificate that cannot be read has nothing but words.
-pub fn draw(bytes: &[u8], links: Option<[usize; 2]>) -> Result<(String, Report), String> {
+pub fn draw(bytes: &[u8], links: Option<[usize; 2]>) -> Result<(String, Verdict), String> {
     let certificate = match read(bytes) {
         Ok(certificate) => certificate,
         Err(refusal) => {
-            let mut page = Page::new(refusal);
+            let verdict = Verdict::refused(refusal);
+            let mut page = Page::new(verdict);
             page.verdict(&verdict::reading_details(refusal));
-            return Ok((page.finish(), refusal));
+            return Ok((page.finish(), verdict));
         }
     };
     let slice = Slice::of(&certificate, links)?;
-    let report = judge(bytes);
-    let mut page = Page::new(report);
+    let verdict = judge(bytes);
+    let mut page = Page::new(verdict);
     page.network(&certificate);
     page.policy(&certificate, &slice);
-    page.verdict(&verdict::details(&certificate, &slice, report));
-    Ok((page.finish(), report))
+    page.verdict(&verdict::details(&certificate, &slice, verdict));
+    Ok((page.finish(), verdict))
 }
 
 /// A page that is filled from top to bottom.
 struct Page {
     svg: Svg,
-    report: Report,
+    verdict: Verdict,
     title: String,
     bottom: i32,
 }
 
 impl Page {
-    fn new(report: Report) -> Page {
-        let verdict = match report.number {
-            0 => "accepted",
-            _ => "refused",
+    fn new(verdict: Verdict) -> Page {
+        let word = match verdict.is_accepted() {
+            true => "accepted",
+            false => "refused",
         };
         let mut svg = Svg::default();
-        let title = format!("Signal policy certificate: {verdict}");
+        let title = format!("Signal policy certificate: {word}");
         svg.text(Style::Title, (LEFT, 38), Anchor::Start, &title);
         Page {
             svg,
-            report,
+            verdict,
             title,
             bottom: 46,
         }
@@ -99,19 +100,21 @@ impl Page {
             "Circles are junctions, arrows links with their numbers. Links from the left edge come in from outside. \
              Amounts are in vehicles.",
         );
-        let marked = (self.report.number == 10).then_some(self.report.b as usize);
+        let report = self.verdict.report;
+        let marked = (report.number == 10).then_some(report.b as usize);
         let top = self.bottom + 12;
         self.bottom = network::network(&mut self.svg, &certificate.links, marked, top);
         let top = self.bottom + 16;
-        self.bottom = tables::tables(&mut self.svg, certificate, self.report, top);
+        self.bottom = tables::tables(&mut self.svg, certificate, report, top);
     }
 
     fn policy(&mut self, certificate: &Certificate, slice: &Slice) {
         self.heading("Policy");
         self.paragraph(&slice_words(certificate, slice));
+        let report = self.verdict.report;
         let shades = Shades::of(certificate, slice);
         let top = self.bottom + 12;
-        self.bottom = legend::legend(&mut self.svg, &shades, self.report, top);
+        self.bottom = legend::legend(&mut self.svg, &shades, report, top);
         let panels = Panels::new(slice, certificate.modes, self.bottom + 8);
         for mode in 0..usize::from(certificate.modes) {
             let panel = Panel {
@@ -123,14 +126,14 @@ impl Page {
             };
             panel.draw(&mut self.svg);
         }
-        step::step(&mut self.svg, certificate, slice, &panels, self.report);
+        step::step(&mut self.svg, certificate, slice, &panels, report);
         self.bottom = panels.bottom();
     }
 
     fn verdict(&mut self, lines: &[String]) {
         self.bottom += 22;
-        let text = verdict::headline(self.report);
-        let alarm = self.report.number != 0;
+        let text = verdict::headline(self.verdict);
+        let alarm = !self.verdict.is_accepted();
         let place = (LEFT, self.bottom);
         self.svg
             .text_or_alarm(Style::Heading, alarm, place, Anchor::Start, &text);

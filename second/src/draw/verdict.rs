@@ -4,14 +4,16 @@ use super::slice::{link_intervals, Slice};
 use super::step::{refused_entry, refused_successor, Place};
 use crate::certificate::{Certificate, Entry, Link};
 use crate::grid::Interval;
-use crate::report::Report;
+use crate::listing::accepted;
+use crate::report::{Report, Verdict};
 use crate::text::green_links;
 
-/// The first line: `accepted` and the count, or the refusal with its number, places and count.
-pub fn headline(report: Report) -> String {
-    if report.number == 0 {
-        return format!("accepted {}", report.count);
+/// The first line: the listing's words of an acceptance, or the refusal with its number, places and count.
+pub fn headline(verdict: Verdict) -> String {
+    if verdict.is_accepted() {
+        return accepted(verdict).trim_end().to_string();
     }
+    let report = verdict.report;
     format!(
         "refused {}: {} (A {}, B {}, count {})",
         report.number,
@@ -58,15 +60,29 @@ pub fn reading_details(report: Report) -> Vec<String> {
 }
 
 /// What the verdict on a certificate that can be read means.
-pub fn details(certificate: &Certificate, slice: &Slice, report: Report) -> Vec<String> {
+pub fn details(certificate: &Certificate, slice: &Slice, verdict: Verdict) -> Vec<String> {
+    let report = verdict.report;
     match report.number {
-        0 => vec![format!(
-            "{} successor cells were looked up; every one is listed, and lower in rank where it must be.",
-            report.count
-        )],
+        0 => vec![
+            format!(
+                "{} successor cells were looked up; every one is listed, and lower in rank where it must be.",
+                report.count
+            ),
+            overflows(verdict.overflows, certificate.entries.len()),
+        ],
         10 => vec![pull_sum(certificate, report)],
         11 => vec![flow_condition(certificate, report)],
         _ => entry_details(certificate, slice, report),
+    }
+}
+
+/// Under how many of the entries a link may exceed its cap.
+fn overflows(count: u64, entries: usize) -> String {
+    match count {
+        0 => "No arrivals are turned away: under no entry may a link exceed its cap.".to_string(),
+        _ => format!(
+            "Arrivals may be turned away: under {count} of {entries} entries a link may exceed its cap."
+        ),
     }
 }
 

@@ -1,6 +1,7 @@
 //! Certificates that several tests use.
 #![allow(dead_code)]
 
+pub mod folder;
 pub mod large;
 pub mod program;
 
@@ -25,6 +26,20 @@ link tail 0 head 1 cap 10 flow 6 safe 10 goal 5
 signal green 0
 grid 5 8
 arrivals 0-2
+entry cell 0 mode 0 signal 0 next 0 rank 0
+entry cell 1 mode 0 signal 0 next 0 rank 1
+entry cell 2 mode 0 signal 0 next 0 rank 2
+end
+";
+
+/// L beside a red link that is full in its only interval; under every entry it may exceed its cap.
+pub const BESIDE: &str = "\
+link tail 0 head 1 cap 10 flow 6 safe 10 goal 5
+link tail 0 head 1 cap 4 flow 4 safe 4 goal 4
+signal green 0
+grid 5 8
+grid
+arrivals 0-2 0-1
 entry cell 0 mode 0 signal 0 next 0 rank 0
 entry cell 1 mode 0 signal 0 next 0 rank 1
 entry cell 2 mode 0 signal 0 next 0 rank 2

@@ -11,8 +11,8 @@ returns c = nothing-done (omega arith)
 load-requires : tie.Need-load-requires
 load-requires c κs = search needs
 
-put-report-requires : tie.Need-put-report-requires
-put-report-requires c κs = search needs
+put-verdict-requires : tie.Need-put-verdict-requires
+put-verdict-requires c κs = search needs
 
 same-length : tie.Need-same-length
 same-length c = search needs
@@ -23,9 +23,9 @@ same-length-2 c = search needs
 returns-2 : tie.Need-returns-2
 returns-2 c =
     let loaded = c .before .before .before .before .before .before .load .ensures in
-    all-done (omega arith) (rw (← loaded .report) (c .before .before .put-report .ensures)) (loaded .bytes)
+    all-done (omega arith) (rw (← loaded .report, ← loaded .overflows) (c .before .before .put-verdict .ensures)) (loaded .bytes)
 
 pub dergvost-load-spec : {M : Type 1} → statement M
 dergvost-load-spec =
     tie.close
-    (tie.spec returns load-requires put-report-requires same-length same-length-2 returns-2)
+    (tie.spec returns load-requires put-verdict-requires same-length same-length-2 returns-2)

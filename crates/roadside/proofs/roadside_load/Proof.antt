@@ -1,7 +1,6 @@
 -- `roadside::roadside_load` meets its contract: the load's answer as one number, the state's bytes afterwards, and the run claim. Assumes nothing.
-use mathlib.Core.Path.{_∙_, ap}
+use mathlib.Core.Path.{_∙_}
 use borrow.Author.Needs.{needs}
-use Rattle.answer_words.specs.Words.{reportWord}
 use Rattle.roadside.proofs.Words.{load-fits}
 use Rattle.roadside.proofs.roadside_load.Statement.{statement}
 use Rattle.roadside.proofs.roadside_load.Tie as tie
@@ -9,10 +8,11 @@ use Rattle.roadside.proofs.roadside_load.Tie as tie
 load-requires : tie.Need-load-requires
 load-requires c κs = search needs
 
-report-word-requires : tie.Need-report-word-requires
-report-word-requires c κs =
+verdict-word-requires : tie.Need-verdict-word-requires
+verdict-word-requires c κs =
     let a = c .before .before .before .before .before .before .args in
-    rw (c .before .before .load .ensures .report) (load-fits (a .state .now) (a .bytes .now))
+    let loaded = c .before .before .load .ensures in
+    rw (loaded .report, loaded .overflows) (load-fits (a .state .now) (a .bytes .now))
 
 same-length : tie.Need-same-length
 same-length c = search needs
@@ -20,7 +20,7 @@ same-length c = search needs
 returns : tie.Need-returns
 returns c =
     let loaded = c .before .before .before .load .ensures in
-    record { answer = c .report-word .ensures ∙ ap reportWord (loaded .report); bytes = loaded .bytes; claim = loaded .runs }
+    record { answer = c .verdict-word .ensures ∙ rw (loaded .report, loaded .overflows); bytes = loaded .bytes; claim = loaded .runs }
 
 pub roadside-load-spec : {M : Type 1} → statement M
-roadside-load-spec = tie.close (tie.spec load-requires report-word-requires same-length returns)
+roadside-load-spec = tie.close (tie.spec load-requires verdict-word-requires same-length returns)

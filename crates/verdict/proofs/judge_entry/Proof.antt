@@ -32,7 +32,7 @@ check-standing-requires c κs = let p = c .before .before .before .before .befor
 
 returns : tie.Need-returns
 returns c = let f = c .before .before .check-standing in
-    (not-standing _ _ _ _ (f .ensures) (c .if1 .taken), omega (arith, standing-count _ _ _ _ (f .ensures), c .before .before .before .before .before .before .before .before .before .before .before .pre .4), c .before .before .before .before .before .before .before .before .before .before .before .pre .6)
+    (not-standing _ _ _ _ (f .ensures) (c .if1 .taken), omega (arith, standing-count _ _ _ _ (f .ensures), c .before .before .before .before .before .before .before .before .before .before .before .pre .4), c .before .before .before .before .before .before .before .before .before .before .before .pre .6, λ z. absurd (c .if1 .taken z))
 
 entry-ends-requires : tie.Need-entry-ends-requires
 entry-ends-requires c κs = let p = c .before .before .before .before .before .before .before .before .before .before .before .before .before .before .before .pre in
@@ -52,7 +52,7 @@ returns-2 c = let K = c .before .before .before .before .before .before .before 
     let f = c .before .before .before .before .before .before .before .before .before .before .before .check-standing in
     let r = c .before .before .search-boxes .ensures in
     let e = rw (K .1) at (r .0) in
-    (searched _ _ _ _ (f .ensures) _ (c .before .before .before .before .before .before .before .before .before .if1 .left) e, rw (K .1) at (r .1), r .2)
+    (searched _ _ _ _ (f .ensures) _ (c .before .before .before .before .before .before .before .before .before .if1 .left) e, rw (K .1) at (r .1), r .2, rw (K .1) at (r .3))
 
 pub judge-entry-spec : {M : Type 1} → statement M
 judge-entry-spec =

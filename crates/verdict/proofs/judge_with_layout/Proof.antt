@@ -18,13 +18,13 @@ refused-requires c κs = search needs
 
 returns-2 : tie.Need-returns-2
 returns-2 c =
-    let went-on = c .before .before .before in
+    let went-on = c .before .before .before .before in
     judge-ends _ _ (went-on .before .before .before .before .before .screen .ensures) (went-on .before .before .if1 .left) _ (went-on .judge-screened .ensures) (c .before .if2 .taken)
     _ (c .refused .ensures .0) (c .refused .ensures .1)
 
 returns-3 : tie.Need-returns-3
 returns-3 c =
-    let went-on = c .before .before in
+    let went-on = c .before .before .before in
     judge-accepts _ _ (went-on .before .before .before .before .before .screen .ensures) (went-on .before .before .if1 .left) _ (went-on .judge-screened .ensures) (c .if2 .left)
 
 pub judge-with-layout-spec : {M : Type 1} → statement M

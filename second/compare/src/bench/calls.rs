@@ -1,8 +1,8 @@
 //! Calls of the library, ready to be made.
 
 use super::sample::{Asked, Sample, SCALE};
-use crate::library::{self, REPORT_SIZE, SHOWN_SIZE, STATE_SIZE};
-use crate::sides::report_numbers;
+use crate::library::{self, REPORT_SIZE, SHOWN_SIZE, STATE_SIZE, VERDICT_SIZE};
+use crate::sides::{report_numbers, verdict_numbers};
 use crate::{fast, peer, roadside};
 use second::Report;
 use std::hint::black_box;
@@ -106,18 +106,18 @@ impl<'a> Ready<'a> {
         let bytes = black_box(&self.sample.bytes[..]);
         let state = black_box(&mut self.state[..]);
         let buffer = black_box(&mut self.buffer[..]);
-        let report = &mut self.shown[..REPORT_SIZE];
+        let shown = &mut self.shown;
         black_box(match self.call {
-            Call::Screen => library::screen(bytes, report),
-            Call::Judge => library::judge(bytes, report),
-            Call::Load => library::load(state, bytes, report),
-            Call::Query(_) => library::query(state, &self.queues, SCALE, &mut self.shown),
+            Call::Screen => library::screen(bytes, &mut shown[..REPORT_SIZE]),
+            Call::Judge => library::judge(bytes, &mut shown[..VERDICT_SIZE]),
+            Call::Load => library::load(state, bytes, &mut shown[..VERDICT_SIZE]),
+            Call::Query(_) => library::query(state, &self.queues, SCALE, shown),
             Call::Poll(_) => {
                 self.shown = roadside::unpacked(roadside::poll(state, black_box(&self.poll)));
                 self.shown[0]
             }
-            Call::Write => library::write(state, buffer, START, report),
-            Call::List => library::list(bytes, buffer, report),
+            Call::Write => library::write(state, buffer, START, &mut shown[..REPORT_SIZE]),
+            Call::List => library::list(bytes, buffer, &mut shown[..REPORT_SIZE]),
         });
     }
 
@@ -125,7 +125,8 @@ impl<'a> Ready<'a> {
     pub fn shown(&self) -> &[u32] {
         match self.call {
             Call::Query(_) | Call::Poll(_) => &self.shown,
-            _ => &self.shown[..REPORT_SIZE],
+            Call::Judge | Call::Load => &self.shown[..VERDICT_SIZE],
+            Call::Screen | Call::Write | Call::List => &self.shown[..REPORT_SIZE],
         }
     }
 
@@ -137,7 +138,7 @@ impl<'a> Ready<'a> {
         let bytes = &self.sample.bytes;
         let report = match self.call {
             Call::Screen => fast::screen(bytes),
-            Call::Judge | Call::Load => fast::judge(bytes),
+            Call::Judge | Call::Load => due.verdict(),
             Call::Query(_) | Call::Poll(_) => due.answer(),
             Call::Write => {
                 due.buffer[START..][..bytes.len()].copy_from_slice(bytes);
@@ -150,6 +151,13 @@ impl<'a> Ready<'a> {
         };
         due.shown[..REPORT_SIZE].copy_from_slice(&report_numbers(report));
         due
+    }
+
+    /// Puts down how many entries may overflow.
+    fn verdict(&mut self) -> Report {
+        let verdict = fast::judge(&self.sample.bytes);
+        self.shown[..VERDICT_SIZE].copy_from_slice(&verdict_numbers(verdict));
+        verdict.report
     }
 
     /// Puts down the second checker's signal and green byte.

@@ -1,7 +1,9 @@
 //! Slices of other lengths. A report that is too short gets 255, and nothing changes; of a longer one only the due part
 //! changes. A state of another length gets 18, in the report too, and its bytes and the buffer stay.
 
-use crate::library::{self, NO_STATE, REPORT_SIZE, SHOWN_SIZE, STATE_SIZE, TOO_SHORT};
+use crate::library::{
+    self, NO_STATE, REPORT_SIZE, SHOWN_SIZE, STATE_SIZE, TOO_SHORT, VERDICT_SIZE,
+};
 use crate::numbers::Numbers;
 use crate::sides::{agree_bytes, lent_buffer, Agreed, Sides};
 
@@ -40,17 +42,17 @@ pub fn compare(bytes: &[u8], sides: &Sides, numbers: &mut Numbers) -> Agreed<()>
     let queues = [0; 8];
     let queues = &queues[..numbers.below(9)];
     let screen: &Call = &|_, report, _| library::screen(bytes, report);
-    let judge: &Call = &|_, report, _| library::judge(bytes, report);
+    let judge: &Call = &|_, verdict, _| library::judge(bytes, verdict);
     let fresh: &Call = &|state, _, _| library::fresh(state);
-    let load: &Call = &|state, report, _| library::load(state, bytes, report);
+    let load: &Call = &|state, verdict, _| library::load(state, bytes, verdict);
     let query: &Call = &|state, shown, _| library::query(state, queues, 1, shown);
     let write: &Call = &|state, report, buffer| library::write(state, buffer, 0, report);
     let list: &Call = &|_, report, buffer| library::list(bytes, buffer, report);
     let calls = [
         ("screen", REPORT_SIZE, 0, screen),
-        ("judge", REPORT_SIZE, 0, judge),
+        ("judge", VERDICT_SIZE, 0, judge),
         ("fresh", 0, STATE_SIZE, fresh),
-        ("load", REPORT_SIZE, STATE_SIZE, load),
+        ("load", VERDICT_SIZE, STATE_SIZE, load),
         ("query", SHOWN_SIZE, STATE_SIZE, query),
         ("write", REPORT_SIZE, STATE_SIZE, write),
         ("list", REPORT_SIZE, 0, list),
@@ -63,7 +65,9 @@ pub fn compare(bytes: &[u8], sides: &Sides, numbers: &mut Numbers) -> Agreed<()>
             result: 0,
         };
         if report > 0 {
-            short_report(name, &lent, call, numbers)?;
+            for size in [report - 1, numbers.below(report)] {
+                short_report(name, &lent, call, size, numbers)?;
+            }
             long_report(name, &lent, call, numbers)?;
         }
         if state > 0 {
@@ -90,10 +94,16 @@ pub(super) fn resized(state: &[u8], size: usize) -> Vec<u8> {
     state
 }
 
-/// A report that is too short: 255, and nothing changes, whatever the state's length.
-fn short_report(name: &str, lent: &Lent, call: &Call, numbers: &mut Numbers) -> Agreed<()> {
+/// A report of so many numbers, too few: 255, and nothing changes, whatever the state's length.
+fn short_report(
+    name: &str,
+    lent: &Lent,
+    call: &Call,
+    size: usize,
+    numbers: &mut Numbers,
+) -> Agreed<()> {
     let mut before = lent.clone();
-    before.report.truncate(numbers.below(lent.report.len()));
+    before.report.truncate(size);
     if !lent.state.is_empty() && numbers.chance(50) {
         let sizes = other_sizes(numbers);
         before.state = resized(&lent.state, numbers.pick(&sizes));

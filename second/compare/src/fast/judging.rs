@@ -1,4 +1,4 @@
-//! Judging the entries: refusals 12 to 15, and the count.
+//! Judging the entries: refusals 12 to 15, the count, and how many entries may overflow.
 
 use super::image::Flows;
 use super::lookup::{Failing, Lookup, Ranks};
@@ -6,13 +6,13 @@ use super::network::{Entry, Network, MOST};
 use super::place::Place;
 use super::ranges::{Range, Steps};
 use super::reading::{read, Read};
-use second::Report;
+use second::{Report, Verdict};
 
 /// Judges any bytes.
-pub fn judge(bytes: &[u8]) -> Report {
+pub fn judge(bytes: &[u8]) -> Verdict {
     match read_ranked(bytes, &mut Network::default()) {
         Ok((read, ranks)) => judge_entries(&read, &ranks),
-        Err(refusal) => refusal,
+        Err(refusal) => Verdict::refused(refusal),
     }
 }
 
@@ -25,7 +25,7 @@ pub fn read_ranked<'a>(
 }
 
 /// Judges a certificate that has passed every test before 12.
-pub fn judge_entries(read: &Read, ranks: &Ranks) -> Report {
+pub fn judge_entries(read: &Read, ranks: &Ranks) -> Verdict {
     let network = read.network;
     let mut judging = Judging {
         network,
@@ -36,14 +36,15 @@ pub fn judge_entries(read: &Read, ranks: &Ranks) -> Report {
         imaged: None,
         ranges: [Range::default(); MOST],
         count: 0,
+        overflows: 0,
     };
     for (number, record) in read.records.iter().enumerate() {
         let entry = Entry::of(record);
         if let Err(refusal) = judging.entry(number, entry) {
-            return refusal.counting(judging.count);
+            return Verdict::refused(refusal.counting(judging.count));
         }
     }
-    Report::SUCCESS.counting(judging.count)
+    Verdict::accepted(judging.count, judging.overflows)
 }
 
 struct Judging<'a> {
@@ -56,6 +57,7 @@ struct Judging<'a> {
     imaged: Option<(u16, u8)>,
     ranges: [Range; MOST],
     count: u64,
+    overflows: u64,
 }
 
 impl Judging<'_> {
@@ -74,13 +76,16 @@ impl Judging<'_> {
             self.ranges = self.steps.ranges(&ends);
             self.imaged = Some((entry.cell, green));
         }
+        let mut over = 0;
         for range in &self.ranges[..self.network.boxes] {
+            over |= range.over;
             let looked = self.lookup.look(&entry, *range);
             match looked {
                 Ok(looked) => self.count += looked as u64,
                 Err(failing) => return Err(self.refuse(number, failing)),
             }
         }
+        self.overflows += u64::from(over != 0);
         Ok(())
     }
 

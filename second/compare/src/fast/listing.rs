@@ -2,12 +2,12 @@
 
 use super::network::{Entry, Network};
 use super::reading::Read;
-use second::Report;
+use second::{Report, Verdict};
 
 /// Puts the listing of a certificate that has got this verdict; tells its length, none if the buffer is too short.
-pub fn put(read: &Read, verdict: Report, buffer: &mut [u8]) -> Option<usize> {
-    if verdict.number != 0 {
-        return put_refusal(verdict, buffer);
+pub fn put(read: &Read, verdict: Verdict, buffer: &mut [u8]) -> Option<usize> {
+    if !verdict.is_accepted() {
+        return put_refusal(verdict.report, buffer);
     }
     let mut text = Text::at_start(buffer);
     text.counts(read.network)?;
@@ -15,7 +15,8 @@ pub fn put(read: &Read, verdict: Report, buffer: &mut [u8]) -> Option<usize> {
         text.entry(Entry::of(record))?;
     }
     text.words(b"accepted ")?;
-    text.number(verdict.count, b'\n')?;
+    text.number(verdict.report.count, b' ')?;
+    text.number(verdict.overflows, b'\n')?;
     Some(text.length)
 }
 

@@ -1,8 +1,8 @@
-//! Random grids, limits and arrival boxes.
+//! Random grids and limits.
 
 use super::Size;
 use crate::numbers::Numbers;
-use second::certificate::{Arrival, Certificate, Link};
+use second::certificate::{Certificate, Link};
 
 /// Adds cuts, then safe and goal by them.
 pub fn add_grid(certificate: &mut Certificate, numbers: &mut Numbers, size: Size) {
@@ -77,34 +77,4 @@ fn set_limits(numbers: &mut Numbers, link: &mut Link, cuts: &[u16]) {
         1 => numbers.wide(link.goal, link.cap),
         _ => link.cap,
     };
-}
-
-/// Adds arrival boxes that green links mostly cope with.
-pub fn add_arrivals(certificate: &mut Certificate, numbers: &mut Numbers) {
-    let boxes = 1 + numbers.weighed(&[45, 25, 10, 6, 4, 4, 3, 3]);
-    let part = numbers.pick(&[2, 4, 4, 8, 8]);
-    let wide = numbers.chance(4);
-    for _ in 0..boxes {
-        let arrivals = certificate.links.iter().map(|link| match wide {
-            true => arrival(numbers, link.cap),
-            false if link.tail == 0 => arrival(numbers, link.flow / part),
-            false if numbers.chance(20) => arrival(numbers, link.flow / 8),
-            false => Arrival { low: 0, high: 0 },
-        });
-        let arrivals = arrivals.collect();
-        certificate.arrivals.push(arrivals);
-    }
-}
-
-fn arrival(numbers: &mut Numbers, most: u16) -> Arrival {
-    let high = match numbers.below(3) {
-        0 => most,
-        _ => numbers.wide(0, most),
-    };
-    let low = match numbers.below(3) {
-        0 => 0,
-        1 => high,
-        _ => numbers.wide(0, high),
-    };
-    Arrival { low, high }
 }

@@ -1,4 +1,4 @@
-//! Judging the entries: refusals 12 to 15, and the count.
+//! Judging the entries: refusals 12 to 15, the count, and how many entries may overflow.
 
 use super::index::{Due, Index};
 use super::runs::{Failing, Runs};
@@ -7,7 +7,7 @@ use crate::fast::network::{Entry, Network};
 use crate::fast::place::Place;
 use crate::fast::ranges::Steps;
 use crate::fast::reading::{read, Read};
-use second::Report;
+use second::{Report, Verdict};
 
 /// Reads, and builds the index on the way.
 pub fn read_indexed<'a>(
@@ -20,7 +20,7 @@ pub fn read_indexed<'a>(
 }
 
 /// Judges a certificate that has passed every test before 12.
-pub fn judge_entries(read: &Read, index: &Index) -> Report {
+pub fn judge_entries(read: &Read, index: &Index) -> Verdict {
     let network = read.network;
     let mut judging = Judging {
         network,
@@ -30,13 +30,14 @@ pub fn judge_entries(read: &Read, index: &Index) -> Report {
         runs: Runs::of(network),
         place: Place::first(network),
         count: 0,
+        overflows: 0,
     };
     for (number, record) in read.records.iter().enumerate() {
         if let Err(refusal) = judging.entry(number, Entry::of(record)) {
-            return refusal.counting(judging.count);
+            return Verdict::refused(refusal.counting(judging.count));
         }
     }
-    Report::SUCCESS.counting(judging.count)
+    Verdict::accepted(judging.count, judging.overflows)
 }
 
 struct Judging<'a> {
@@ -47,6 +48,7 @@ struct Judging<'a> {
     runs: Runs,
     place: Place,
     count: u64,
+    overflows: u64,
 }
 
 impl Judging<'_> {
@@ -63,13 +65,16 @@ impl Judging<'_> {
         let ends = self.flows.ends(green, &self.place.intervals);
         let ranges = self.steps.ranges(&ends);
         let due = Due::of(&entry);
+        let mut over = 0;
         for range in &ranges[..self.network.boxes] {
+            over |= range.over;
             self.runs.pass_to(range.shape);
             match self.runs.look(self.index, range.first, due) {
                 Ok(looked) => self.count += looked as u64,
                 Err(failing) => return Err(self.refuse(number, failing, due)),
             }
         }
+        self.overflows += u64::from(over != 0);
         Ok(())
     }
 

@@ -8,8 +8,8 @@ use Rattle.entry_search.proofs.boxes.box_runs.Tie as tie
 
 image-of-requires : tie.Need-image-of-requires
 image-of-requires c κs =
-    let p = c .before .before .before .before .pre in
-    (p .0, p .1 .link, p .2, p .4, p .6, p .5 .entry-exists, omega (arith, p .7, p .5 .boxes-is), refl, refl)
+    let p = c .before .before .before .before .before .pre in
+    (p .0, p .1 .link, p .2, p .4, p .6, p .5 .entry-exists, omega (arith, p .7, p .5 .boxes-is), refl, refl, refl)
 
 ranges-of-requires : tie.Need-ranges-of-requires
 ranges-of-requires c κs = search needs
@@ -22,10 +22,10 @@ same-length c = search needs
 
 returns : tie.Need-returns
 returns c =
-    let called = c .before .before in
-    let a = called .before .before .before .before .before .before .before .before .before .before .before .before .before .before in
-    let r = called .runs-of .ensures in
-    (r .0, runs-are _ (a .pre .0) _ _ _ _ _ _ _ _ _ (c .before .before .before .before .before .before .before .before .before .before .before .image-of .ensures .0) (c .before .before .before .before .before .before .ranges-of .ensures .0) (r .1))
+    let a = c .before .before .before .before .before .before .before .before .before .before .before .before .before .before .before .before .before in
+    let r = c .before .before .runs-of .ensures in
+    let image = c .before .before .before .before .before .before .before .before .before .before .before .image-of .ensures in
+    (r .0, runs-are _ (a .pre .0) _ _ _ _ _ _ _ _ _ _ (image .0) (c .before .before .before .before .before .before .ranges-of .ensures .0) (r .1), image .4)
 
 pub box-runs-spec : {M : Type 1} → statement M
 box-runs-spec =

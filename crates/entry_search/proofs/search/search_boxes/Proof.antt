@@ -1,44 +1,49 @@
 -- `entry_search::search::search_boxes` meets its contract: at every place, what is found from there on with what was counted is what the
 -- definition finds. Assumes nothing.
 use Prim.Native.Nat.{_+_, _-_}
-use mathlib.Core.Path.{_≡_}
+use mathlib.Core.Path.{_≡_, sym, ap, _∙_}
 use native.Mathlib.Omega.{arith}
 use lib.ListN.{length}
 use borrow.Author.Needs.{needs}
+use Rattle.certificate.specs.declared.Report.{Report}
+use Rattle.certificate.specs.Loops.{anyTo}
 use Rattle.certificate.specs.Checks.{fine}
+use Rattle.certificate.proofs.Loops.{any-none, any-more}
+use Rattle.judging.specs.Overflow.{boxOverflows}
+use Rattle.entry_search.proofs.Overflowing.{all-boxes}
 use Rattle.entry_search.proofs.Places.{AtBox, AtRun, InRun, begins, ends, first-run, last-run, run-fits, count-most, run-begins, run-ends, refuses, goes-on, same-place, whole-run}
 use Rattle.entry_search.proofs.search.search_boxes.Statement.{statement}
 use Rattle.entry_search.proofs.search.search_boxes.Tie as tie
 
 abbrev Inv-loop2 : tie.InvT-loop2
-Inv-loop2 s task ranks edges arrivals runs count tables before links found₀ total₀ b n size looked₀ i d₀ end passed b-end found total looked d =
-    InRun s task count b runs n size (total + looked) i end d × (found ≡ fine)
+Inv-loop2 s task ranks edges arrivals runs count tables before links found₀ total₀ over b n size looked₀ i d₀ end passed b-end found total looked d =
+    InRun s task count b runs n size (total + looked) i end d × (found ≡ fine) × (over ≡ anyTo (b + 1) (boxOverflows s (task .entry)))
 
 abbrev μ-loop2 : tie.MeasureT-loop2
-μ-loop2 s task ranks edges arrivals runs count tables before links found₀ total₀ b n size looked₀ i d₀ end passed b-end found total looked d =
+μ-loop2 s task ranks edges arrivals runs count tables before links found₀ total₀ over b n size looked₀ i d₀ end passed b-end found total looked d =
     end - d
 
 abbrev Inv-loop : tie.InvT-loop
-Inv-loop s task ranks edges arrivals runs count tables before links found₀ total₀ b n size looked₀ i₀ b-end found total looked i =
-    AtRun s task count b runs n size (total + looked) i × (found ≡ fine)
+Inv-loop s task ranks edges arrivals runs count tables before links found₀ total₀ over b n size looked₀ i₀ b-end found total looked i =
+    AtRun s task count b runs n size (total + looked) i × (found ≡ fine) × (over ≡ anyTo (b + 1) (boxOverflows s (task .entry)))
 
 abbrev μ-loop : tie.MeasureT-loop
-μ-loop s task ranks edges arrivals runs count tables before links found₀ total₀ b n size looked₀ i₀ b-end found total looked i =
+μ-loop s task ranks edges arrivals runs count tables before links found₀ total₀ over b n size looked₀ i₀ b-end found total looked i =
     n - i
 
 abbrev Inv-search : tie.InvT-search
-Inv-search s task ranks edges arrivals runs₀ count tables before links found₀ total₀ b₀ b-end runs found total b =
-    AtBox s task count total b × (found ≡ fine) × (length runs ≡ 4096)
+Inv-search s task ranks edges arrivals runs₀ count tables before links found₀ total₀ over₀ b₀ b-end runs found total over b =
+    AtBox s task count total b × (found ≡ fine) × (length runs ≡ 4096) × (over ≡ anyTo b (boxOverflows s (task .entry)))
 
 abbrev μ-search : tie.MeasureT-search
-μ-search s task ranks edges arrivals runs₀ count tables before links found₀ total₀ b₀ b-end runs found total b =
+μ-search s task ranks edges arrivals runs₀ count tables before links found₀ total₀ over₀ b₀ b-end runs found total over b =
     task .boxes - b
 
 accept-requires : tie.Need-accept-requires Inv-loop2 μ-loop2 Inv-loop μ-loop Inv-search μ-search
 accept-requires c κs = search needs
 
 search-holds : tie.Need-search-holds Inv-loop2 μ-loop2 Inv-loop μ-loop Inv-search μ-search
-search-holds c = (begins _ _ _ (c .before .before .before .pre .4), c .accept .ensures, c .before .before .before .pre .5)
+search-holds c = (begins _ _ _ (c .before .before .before .pre .4), c .accept .ensures, c .before .before .before .pre .5, any-none _)
 
 box-runs-requires :
     tie.Need-box-runs-requires Inv-loop2 μ-loop2 Inv-loop μ-loop Inv-search μ-search
@@ -49,9 +54,12 @@ box-runs-requires c κs =
 
 loop-holds : tie.Need-loop-holds Inv-loop2 μ-loop2 Inv-loop μ-loop Inv-search μ-search
 loop-holds c =
-    let r = c .before .before .box-runs .ensures in
-    let at = c .before .before .before .before .before .before .before .before .before .before .before .before .search .inv in
-    (first-run (record { task-is = c .before .before .before .before .before .before .before .before .before .before .before .before .before .before .before .before .pre .2; exists = c .before .before .before .before .before .before .before .before .before .before .before .search-test .taken; list = r .1; sized = r .0 }) (at .0), at .1)
+    let r = c .before .before .before .box-runs .ensures in
+    let at = c .before .before .before .before .before .before .before .before .before .before .before .before .before .search .inv in (
+      first-run (record { task-is = c .before .before .before .before .before .before .before .before .before .before .before .before .before .before .before .before .before .pre .2; exists = c .before .before .before .before .before .before .before .before .before .before .before .before .search-test .taken; list = r .1; sized = r .0 }) (at .0),
+      at .1,
+      any-more (boxOverflows _ _) _ (at .3) (r .2),
+    )
 
 mul-wide-pair : tie.Need-mul-wide-pair Inv-loop2 μ-loop2 Inv-loop μ-loop Inv-search μ-search
 mul-wide-pair c =
@@ -77,7 +85,7 @@ passed-whole-requires :
     tie.Need-passed-whole-requires Inv-loop2 μ-loop2 Inv-loop μ-loop Inv-search μ-search
 passed-whole-requires c κs =
     let at = run-begins (c .before .before .before .loop .inv .0) (c .before .before .loop-test .taken) (c .wide-pair .ensures .0) in
-    (at .box .task-is, c .before .before .before .before .before .before .before .before .before .before .before .before .before .before .before .before .before .before .before .before .pre .1, at .to, run-fits at)
+    (at .box .task-is, c .before .before .before .before .before .before .before .before .before .before .before .before .before .before .before .before .before .before .before .before .before .pre .1, at .to, run-fits at)
 
 add-looked : tie.Need-add-looked Inv-loop2 μ-loop2 Inv-loop μ-loop Inv-search μ-search
 add-looked c =
@@ -96,7 +104,7 @@ add-d c =
 loop2-holds : tie.Need-loop2-holds Inv-loop2 μ-loop2 Inv-loop μ-loop Inv-search μ-search
 loop2-holds c =
     let at = run-begins (c .before .before .before .before .before .loop .inv .0) (c .before .before .before .before .loop-test .taken) (c .before .before .wide-pair .ensures .0) in
-    (same-place (whole-run at (c .before .passed-whole .ensures)) (omega arith) (omega (arith, c .wide-quad .ensures .0)), c .before .before .before .before .before .loop .inv .1)
+    (same-place (whole-run at (c .before .passed-whole .ensures)) (omega arith) (omega (arith, c .wide-quad .ensures .0)), c .before .before .before .before .before .loop .inv .1, c .before .before .before .before .before .loop .inv .2)
 
 add-looked-2 : tie.Need-add-looked-2 Inv-loop2 μ-loop2 Inv-loop μ-loop Inv-search μ-search
 add-looked-2 c = omega (arith, count-most (c .before .loop2 .inv .0))
@@ -105,7 +113,7 @@ successor-number-requires :
     tie.Need-successor-number-requires Inv-loop2 μ-loop2 Inv-loop μ-loop Inv-search μ-search
 successor-number-requires c κs =
     let at = c .before .loop2 .inv .0 in
-    (at .box .task-is, c .before .before .before .before .before .before .before .before .before .before .before .before .before .before .before .before .before .before .before .before .before .before .before .before .pre .1, omega (arith, c .loop2-test .taken, run-fits at))
+    (at .box .task-is, c .before .before .before .before .before .before .before .before .before .before .before .before .before .before .before .before .before .before .before .before .before .before .before .before .before .pre .1, omega (arith, c .loop2-test .taken, run-fits at))
 
 add-total : tie.Need-add-total Inv-loop2 μ-loop2 Inv-loop μ-loop Inv-search μ-search
 add-total c = omega (arith, count-most (c .before .before .before .loop2 .inv .0))
@@ -127,7 +135,7 @@ loop2-less c = omega (arith, c .before .before .loop2-test .taken)
 loop2-again : tie.Need-loop2-again Inv-loop2 μ-loop2 Inv-loop μ-loop Inv-search μ-search
 loop2-again c =
     let w = c .before .before .before .loop2 .inv in
-    (same-place (goes-on (w .0) (c .before .before .loop2-test .taken) (c .before .successor-number .ensures) (c .if1 .left)) (omega arith) (omega arith), w .1)
+    (same-place (goes-on (w .0) (c .before .before .loop2-test .taken) (c .before .successor-number .ensures) (c .if1 .left)) (omega arith) (omega arith), w .1, w .2)
 
 add-i : tie.Need-add-i Inv-loop2 μ-loop2 Inv-loop μ-loop Inv-search μ-search
 add-i c =
@@ -139,7 +147,7 @@ loop-less : tie.Need-loop-less Inv-loop2 μ-loop2 Inv-loop μ-loop Inv-search μ
 loop-less c = omega (arith, c .before .loop2 .inv .0 .run)
 
 loop-again : tie.Need-loop-again Inv-loop2 μ-loop2 Inv-loop μ-loop Inv-search μ-search
-loop-again c = (run-ends (c .before .loop2 .inv .0) (c .loop2-test .left), c .before .loop2 .inv .1)
+loop-again c = (run-ends (c .before .loop2 .inv .0) (c .loop2-test .left), c .before .loop2 .inv .1, c .before .loop2 .inv .2)
 
 add-total-2 : tie.Need-add-total-2 Inv-loop2 μ-loop2 Inv-loop μ-loop Inv-search μ-search
 add-total-2 c =
@@ -159,7 +167,7 @@ search-less c = omega (arith, c .before .loop .inv .0 .box .exists)
 search-again : tie.Need-search-again Inv-loop2 μ-loop2 Inv-loop μ-loop Inv-search μ-search
 search-again c =
     let w = c .before .loop .inv in
-    (last-run (w .0) (c .loop-test .left), w .1, w .0 .box .sized)
+    (last-run (w .0) (c .loop-test .left), w .1, w .0 .box .sized, w .2)
 
 same-length : tie.Need-same-length Inv-loop2 μ-loop2 Inv-loop μ-loop Inv-search μ-search
 same-length c = omega (arith, c .before .search .inv .2, c .before .before .before .before .before .pre .5)
@@ -167,18 +175,19 @@ same-length c = omega (arith, c .before .search .inv .2, c .before .before .befo
 returns : tie.Need-returns Inv-loop2 μ-loop2 Inv-loop μ-loop Inv-search μ-search
 returns c =
     let at = c .before .search .inv in
-    let r = ends (c .before .before .before .before .before .pre .2) (c .search-test .left) (at .0) (at .1) in
-    (r .0, r .1, at .2)
+    let K = c .before .before .before .before .before .pre .2 in
+    let r = ends K (c .search-test .left) (at .0) (at .1) in
+    (r .0, r .1, at .2, λ _. all-boxes _ _ _ (omega (arith, at .0 .inside, K .boxes-is)) (at .3))
 
 same-length-2 : tie.Need-same-length-2 Inv-loop2 μ-loop2 Inv-loop μ-loop Inv-search μ-search
-same-length-2 c = omega (arith, c .before .before .before .before .loop2 .inv .0 .box .sized, c .before .before .before .before .before .before .before .before .before .before .before .before .before .before .before .before .before .before .before .before .before .before .before .before .before .before .before .pre .5)
+same-length-2 c = omega (arith, c .before .before .before .before .loop2 .inv .0 .box .sized, c .before .before .before .before .before .before .before .before .before .before .before .before .before .before .before .before .before .before .before .before .before .before .before .before .before .before .before .before .pre .5)
 
 returns-2 : tie.Need-returns-2 Inv-loop2 μ-loop2 Inv-loop μ-loop Inv-search μ-search
 returns-2 c =
     let here = c .before .before .before .before .loop2 in
     let at = here .inv .0 in
     let r = refuses at (c .before .before .before .loop2-test .taken) (c .before .before .successor-number .ensures) (here .total + (here .looked + 1)) (c .before .if1 .taken) (c .report .ensures) (omega arith) in
-    (r .0, r .1, at .box .sized)
+    (r .0, r .1, at .box .sized, λ z. absurd (c .before .if1 .taken (ap (λ (q : Report). q .number) (sym (c .report .ensures)) ∙ z)))
 
 pub search-boxes-spec : {M : Type 1} → statement M
 search-boxes-spec =

@@ -34,7 +34,7 @@ returns c =
     let s = c .before .before .before .before .before in
     let n = c .before .before .entries-of .ensures .0 in
     let lines = ap (λ (n : ℕ). length (entryLines (s .args .s .now) n)) n in
-    omega (arith, length-accepted (s .args .s .now) (s .args .report), lines, s .pre .most)
+    omega (arith, length-accepted (s .args .s .now) (s .args .report) (s .args .overflows), lines, s .pre .most)
 
 pub text-length-spec : {M : Type 1} → statement M
 text-length-spec =

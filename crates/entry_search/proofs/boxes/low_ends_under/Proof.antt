@@ -1,12 +1,12 @@
--- `entry_search::boxes::ends_under` meets its contract. Assumes nothing.
+-- `entry_search::boxes::low_ends_under` meets its contract. Assumes nothing.
 use Prim.Native.Nat.{_+_, _*_, _-_, min}
 use native.Mathlib.Omega.{arith}
 use borrow.Author.Count.{below-none}
 use borrow.Author.Needs.{needs}
 use Rattle.octets.proofs.FilledTables.{Filled, filled-more}
 use lib.ListN.{getD}
-use Rattle.entry_search.proofs.boxes.ends_under.Statement.{statement}
-use Rattle.entry_search.proofs.boxes.ends_under.Tie as tie
+use Rattle.entry_search.proofs.boxes.low_ends_under.Statement.{statement}
+use Rattle.entry_search.proofs.boxes.low_ends_under.Tie as tie
 
 abbrev Inv-loop : tie.InvT-loop
 Inv-loop links caps before arrivals at ends₀ l₀ ends l = Filled 8 l (λ k. min (getD caps k 0) (getD before k 0 + getD arrivals (at + 2 * k) 0)) ends
@@ -63,8 +63,8 @@ loop-again c = let w = c .before .before .before .before .before in
 returns : tie.Need-returns Inv-loop μ-loop
 returns c = (c .before .loop .inv .0, λ k lt. c .before .loop .inv .1 k (omega arith))
 
-pub ends-under-spec : {M : Type 1} → statement M
-ends-under-spec =
+pub low-ends-under-spec : {M : Type 1} → statement M
+low-ends-under-spec =
     tie.close
     (tie.spec
     Inv-loop
