@@ -99,6 +99,17 @@ pub struct Reached {
     pub over: bool,
 }
 
+// The runs of a box, and what its image says of the caps.
+fn with_over(runs: starts::Runs, over: bool) -> Reached
+    ensures { λ r. ⌜ (r .count ≡ runs .count) × (r .size ≡ runs .size) × (r .over ≡ over) ⌝ }
+{
+    Reached {
+        count: runs.count,
+        size: runs.size,
+        over,
+    }
+}
+
 // The runs of successors of an entry under box b, and whether some link may exceed its cap: `runs` is filled with the runs' starts.
 // `low` and `high` are the ends of the entry's image before arrivals.
 pub fn box_runs<'a, 'b>(
@@ -138,9 +149,5 @@ pub fn box_runs<'a, 'b>(
     let mut last = [0usize; limits::MAX_LINKS];
     ranges::ranges_of(s, edges, counts, links, &from, &to, &mut first, &mut last);
     let found = starts::runs_of(s, counts, weights, &first, &last, links, task.cells, runs);
-    Reached {
-        count: found.count,
-        size: found.size,
-        over: any,
-    }
+    with_over(found, any)
 }

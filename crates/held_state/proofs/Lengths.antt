@@ -9,6 +9,7 @@ use Rattle.certificate.specs.declared.Report.{Report}
 use Rattle.certificate.specs.Checks.{refusal, fine}
 use Rattle.certificate.proofs.Tests.{need-pass, need-fail}
 use Rattle.runs.specs.Claim.{RunClaim}
+use Rattle.verdict.specs.declared.Verdict.{Verdict}
 use Rattle.controller.specs.declared.Controller.{Controller}
 use Rattle.controller.specs.declared.Loaded.{Loaded}
 use Rattle.controller.specs.declared.Shown.{Shown}
@@ -57,11 +58,11 @@ module _ (state : List ℕ) (h : length state ≡ stateSize → ⊥) (r : Report
       let back = other-lengths state h .fresh in
       record { report = e ∙ sym back; bytes = unchanged state freshState back }
 
-  pub no-state-load : (s : List ℕ) → HeldLoad s state state (record { report = r; overflows = 0 })
-  no-state-load s =
+  pub no-state-load : (s : List ℕ) (v : Verdict) → v .report ≡ r → v .overflows ≡ 0 → HeldLoad s state state v
+  no-state-load s v same zero =
       let (back, none) = other-lengths state h .load s in
       let number = ap (λ (x : Report). x .number) back in
-      record { report = e ∙ sym back; overflows = sym none; bytes = unchanged state (holding s) back; runs = λ z. absurd (omega arith) }
+      record { report = same ∙ e ∙ sym back; overflows = zero ∙ sym none; bytes = unchanged state (holding s) back; runs = λ z. absurd (omega arith) }
 
 -- what fresh and load answer where it is right
 module _ (state : List ℕ) (fit : length state ≡ stateSize) where

@@ -62,11 +62,7 @@ pub fn load(state: &mut [u8], s: &[u8]) -> Verdict
     ensures { λ r. ⌜ HeldLoad (now (s .entry)) (now (state .entry)) (now (state .exit)) r ⌝ }
 {
     if !packed_state::has_state_size(state) {
-        let report = octets::refuse(18, 0);
-        return Verdict {
-            report,
-            overflows: 0,
-        };
+        return verdict::refused(octets::refuse(18, 0));
     }
     let loaded = Controller::fresh().load(s);
     let judged = loaded.report;

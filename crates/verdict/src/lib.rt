@@ -42,6 +42,14 @@ pub struct Judged {
     pub overflows: u32,
 }
 
+// The verdict of a refusal.
+pub fn refused(report: Report) -> Verdict
+    ensures { λ r. ⌜ (r .report ≡ report) × (r .overflows ≡ 0) ⌝ }
+{
+    let overflows = 0;
+    Verdict { report, overflows }
+}
+
 // One entry judged alone: its standing, then its successors.
 fn judge_entry(
     s: &[u8],
@@ -116,10 +124,7 @@ fn judge_entries(
         );
         let report = r.report;
         if report.number != 0 {
-            return Verdict {
-                report,
-                overflows: 0,
-            };
+            return refused(report);
         }
         count = report.count;
         overflows += counted(r.over);

@@ -11,11 +11,14 @@ has-state-size-requires c κs = search needs
 refuse-requires : tie.Need-refuse-requires
 refuse-requires c κs = search needs
 
+refused-requires : tie.Need-refused-requires
+refused-requires c κs = search needs
+
 same-length : tie.Need-same-length
 same-length c = search needs
 
 returns : tie.Need-returns
-returns c = search (no-state-load, is-none)
+returns c = let turned = c .refused .ensures in no-state-load _ (search is-none) _ (c .before .refuse .ensures) _ _ (turned .0) (turned .1)
 
 fresh-requires : tie.Need-fresh-requires
 fresh-requires c κs = search needs
@@ -40,6 +43,7 @@ load-spec =
     (tie.spec
     has-state-size-requires
     refuse-requires
+    refused-requires
     same-length
     returns
     fresh-requires

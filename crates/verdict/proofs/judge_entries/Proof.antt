@@ -1,6 +1,6 @@
 -- `verdict::judge_entries` meets its contract. Assumes nothing.
 use Prim.Native.Nat.{_+_, _*_, _-_, _≤_}
-use mathlib.Core.Path.{_≡_, refl, ap}
+use mathlib.Core.Path.{_≡_, refl, sym, ap, _∙_}
 use native.Mathlib.Omega.{arith}
 use lib.ListN.{length}
 use borrow.Author.Needs.{needs}
@@ -29,17 +29,22 @@ judge-entry-requires c κs = let w = c .before .before .loop .inv in
     let p = c .before .before .before .before .before .pre in
     (p .0, p .1, p .2, omega (arith, c .before .loop-test .taken, w .2), w .1, p .3, w .4)
 
+refused-requires : tie.Need-refused-requires Inv-loop μ-loop
+refused-requires c κs = search needs
+
 same-length : tie.Need-same-length Inv-loop μ-loop
-same-length c = omega (arith, c .before .before .before .before .before .judge-entry .ensures .2, c .before .before .before .before .before .before .before .before .before .before .before .pre .4)
+same-length c = omega (arith, c .before .before .before .before .before .before .judge-entry .ensures .2, c .before .before .before .before .before .before .before .before .before .before .before .before .pre .4)
 
 returns : tie.Need-returns Inv-loop μ-loop
 returns c =
-    let w = c .before .before .before .before .before .before .before .before .loop .inv in
-    let r = c .before .before .before .before .before .judge-entry .ensures in
+    let w = c .before .before .before .before .before .before .before .before .before .loop .inv in
+    let r = c .before .before .before .before .before .before .judge-entry .ensures in
+    let bad = c .before .if1 .taken in
+    let verdict = c .refused .ensures in
     record {
-      report-is = stop-entry _ _ _ _ (w .2) _ _ (c .before .before .before .before .before .before .before .loop-test .taken) (r .0) (c .if1 .taken) (w .0);
-      counted = λ z. absurd (c .if1 .taken z);
-      none = λ _. refl;
+      report-is = verdict .0 ∙ stop-entry _ _ _ _ (w .2) _ _ (c .before .before .before .before .before .before .before .before .loop-test .taken) (r .0) bad (w .0);
+      counted = λ z. absurd (bad (sym (ap (λ (q : Report). q .number) (verdict .0)) ∙ z));
+      none = λ _. verdict .1;
     }
 
 counted-requires : tie.Need-counted-requires Inv-loop μ-loop
@@ -96,6 +101,7 @@ judge-entries-spec =
     μ-loop
     loop-holds
     judge-entry-requires
+    refused-requires
     same-length
     returns
     counted-requires
