@@ -1,17 +1,15 @@
 -- Which entries may turn arrivals away, and how many (specs/Laws.antt). Assumes nothing.
-use Prim.Native.Nat.{ℕ, _+_, _*_, _≤_, _<_, min}
+use Prim.Native.Nat.{ℕ, zero, suc, _+_, _*_, _≤_, _<_}
 use mathlib.Core.List.{List}
 use mathlib.Core.Bool.{Bool, true, false, false≢true}
-use mathlib.Core.Path.{_≡_, sym, ap, _∙_}
+use mathlib.Core.Path.{_≡_, refl, sym, _∙_}
 use mathlib.Core.Logic.{⊎-elim}
-use native.Mathlib.Nat.{mul-one}
+use native.Mathlib.Nat.{eq-or-lt-of-le}
 use native.Mathlib.Omega.{arith}
 use borrow.Author.Tests.{eq-eqb, ne-eqb}
-use lib.Dec.{eqb}
 use lib.ListN.{take}
 use lib.Seq.{take-all}
-use Rattle.certificate.specs.declared.Report.{Report}
-use Rattle.certificate.specs.Loops.{pick}
+use Rattle.certificate.specs.Loops.{pick, sumTo}
 use Rattle.certificate.specs.Layout.{maxLength, boxesOf, entriesOf, cellOf, signalOf}
 use Rattle.certificate.proofs.Loops.{any-some, some-any}
 use Rattle.certificate.proofs.Size.{readable-fits}
@@ -24,7 +22,7 @@ use Rattle.grid.specs.Laws.{ImageOf}
 use Rattle.grid.proofs.Images.{image-is-smallest}
 use Rattle.judging.specs.Verdict.{verdictOf}
 use Rattle.judging.specs.Overflow.{boxOverflows, entryOverflows, overflowsBefore, overflowsOf}
-use Rattle.judging.specs.Laws.{TurnsAway, EntryOverflows, NotCut, AcceptedOverflows, RefusedOverflows, OverflowsFit, OverflowsOfLong}
+use Rattle.judging.specs.Laws.{TurnsAway, EntryOverflows, NotCut, AcceptedOverflows, RefusedOverflows, OverflowsFit, NoneOverflows, OverflowsOfLong}
 use Rattle.judging.proofs.Counting.{ones-most}
 use Rattle.judging.proofs.Screens.{at-most-or-above}
 use Rattle.judging.proofs.Verdicts.{accepted-is-plain, verdict-of-long}
@@ -82,6 +80,25 @@ overflows-fit s =
     (λ (z : verdictOf s .number ≡ 0). omega (arith, accepted-overflows s z, overflows-before-most s (entriesOf s)))
     (λ (bad : verdictOf s .number ≡ 0 → ⊥). omega (arith, refused-overflows s bad))
     (passes (verdictOf s))
+
+-- where none of the first n indices is counted, the test fails of each
+none-counted : (n : ℕ) (p : ℕ → Bool) → sumTo n (λ k. pick (p k) 1 0) ≡ 0 → (k : ℕ) → k < n → p k ≡ false
+unfolding sumTo
+none-counted zero p z k lt = absurd (omega arith)
+none-counted (suc n) p z k lt =
+    let le : k ≤ n = omega arith in
+    ⊎-elim
+    (λ (last : k ≡ n). rw last (fails (p n) (omega arith)))
+    (λ (h : k < n). none-counted n p (omega arith) k h)
+    (eq-or-lt-of-le le)
+  where
+    fails : (q : Bool) → pick q 1 0 ≡ 0 → q ≡ false
+    fails true e = absurd (omega arith)
+    fails false e = refl
+
+pub none-overflows : NoneOverflows
+unfolding overflowsBefore
+none-overflows s accepted none = none-counted (entriesOf s) (entryOverflows s) (sym (accepted-overflows s accepted) ∙ none)
 
 pub overflows-of-long : OverflowsOfLong
 overflows-of-long s =

@@ -162,6 +162,11 @@ RefusedOverflows = (s : List ℕ) → (verdictOf s .number ≡ 0 → ⊥) → ov
 abbrev pub OverflowsFit : Type 0
 OverflowsFit = (s : List ℕ) → overflowsOf s ≤ entriesOf s
 
+-- a certificate that is accepted with 0 has no such entry
+abbrev pub NoneOverflows : Type 0
+NoneOverflows =
+    (s : List ℕ) → verdictOf s .number ≡ 0 → overflowsOf s ≡ 0 → (e : ℕ) → e < entriesOf s → entryOverflows s e ≡ false
+
 -- the number of a byte string is that of its first (greatest length + 1) bytes
 abbrev pub OverflowsOfLong : Type 0
 OverflowsOfLong = (s : List ℕ) → overflowsOf s ≡ overflowsOf (take (maxLength + 1) s)

@@ -5,7 +5,7 @@ ghost use lib.ListN.{length};
 ghost use Rattle.text.specs.TextPut.{Room, Put};
 ghost use Rattle.listing.specs.Entries.{EntriesAt};
 ghost use Rattle.listing_text.specs.Lines.{refusedLine};
-ghost use Rattle.listing_text.specs.Listing.{acceptedText, textOf, Sent};
+ghost use Rattle.listing_text.specs.Listing.{acceptedText, Sent};
 ghost use Rattle.octets.specs.Bounds.{offsetBound};
 use certificate::Report;
 use listing_lines::lengths;

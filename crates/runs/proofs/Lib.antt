@@ -5,3 +5,4 @@ pub mod Lookup
 pub mod Steps
 pub mod Moments
 pub mod RunClaim
+pub mod TurnedAway

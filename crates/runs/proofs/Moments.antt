@@ -46,10 +46,10 @@ pub record Run (s : List ℕ) (r : RunState) (e : ℕ) (steps : List Step) : Typ
 module _ (s : List ℕ) (S : Steady s) where
   -- the entry in force after the first step, and the run from there by the other steps
   module _ {r : RunState} {e : ℕ} {p : Step} {ps : List Step} (R : Run s r e (p ∷ ps)) where
-    first : Follower s e (stepped s r p)
+    pub first : Follower s e (stepped s r p)
     first = S .step r e p (R .in-force) (R .scale) (R .proper zero (omega arith))
 
-    rest : Run s (stepped s r p) (first .entry) ps
+    pub rest : Run s (stepped s r p) (first .entry) ps
     rest = record { scale = first .scale; in-force = first .in-force; proper = λ k lt. R .proper (suc k) (omega arith) }
 
   -- a visit of the run after the first step is one of the whole run, a moment later

@@ -41,10 +41,10 @@ pub record Steady (s : List ℕ) : Type 0 where
 
 -- a step's arrivals have a scale of at least 1, and over the common scale they lie in its arrival box
 module _ (s : List ℕ) (p : Step) (P : ProperStep s p) where
-  arrivals-scale : 1 ≤ scaleOf (p .arrivals)
+  pub arrivals-scale : 1 ≤ scaleOf (p .arrivals)
   arrivals-scale = scale-least (p .arrivals) (linksOf s) (P .count) (P .scales)
 
-  in-box : (r : RunState) → InBox s (p .box) (commonScale r p) (arrivalsOver r p)
+  pub in-box : (r : RunState) → InBox s (p .box) (commonScale r p) (arrivalsOver r p)
   in-box r l lt =
       let given : l < length (p .arrivals) = rw (P .count) lt in
       let low = keeps-low (p .arrivals) l _ given (P .scales l lt) (P .low l lt) in

@@ -1,11 +1,17 @@
 -- What is proved of fractions and runs (proofs/ of this crate). Statements only.
-use Prim.Native.Nat.{ℕ, _*_, _≤_, _<_}
+use Prim.Native.Nat.{ℕ, _+_, _*_, _≤_, _<_}
 use mathlib.Core.List.{List}
+use mathlib.Core.Bool.{false}
 use mathlib.Core.Path.{_≡_}
-use lib.ListN.{length}
+use lib.ListN.{length, getD}
+use Rattle.certificate.specs.Layout.{linksOf}
+use Rattle.network.specs.Network.{networkOf, entryLimit}
+use Rattle.network.specs.Flow.{gross}
+use Rattle.network.specs.Laws.{Screened}
 use Rattle.judging.specs.Verdict.{verdictOf}
+use Rattle.judging.specs.Overflow.{entryOverflows, overflowsOf}
 use Rattle.runs.specs.Fractions.{Fraction, fractionAt, scaleOf, overScale}
-use Rattle.runs.specs.Runs.{Step, start, momentOf, ProperQueues, ProperSteps}
+use Rattle.runs.specs.Runs.{RunState, Step, start, InForce, commonScale, queuesOver, arrivalsOver, stepped, momentOf, noStep, ProperQueues, ProperStep, ProperSteps}
 use Rattle.runs.specs.Claim.{RunClaim}
 
 -- bringing a list of fractions to one scale keeps each, by cross products
@@ -26,3 +32,27 @@ MomentScale =
 -- Demand 3: the run claim holds of every byte string whose verdict is 0
 abbrev pub RunTheorem : Type 0
 RunTheorem = (s : List ℕ) → verdictOf s .number ≡ 0 → RunClaim s
+
+-- Where arrivals may be turned away (judging `Overflow`).
+
+-- step p from state r to state q takes all arrivals in: on each link the queue after it is what was there, less what is sent, with what is passed
+-- in and all that arrives, under entry e and not cut at cap
+abbrev pub TakesAll : List ℕ → RunState → Step → ℕ → RunState → Type 0
+TakesAll s r p e q =
+    (l : ℕ) → l < linksOf s
+    → q .queue l ≡ gross (networkOf s) (entryLimit s e) (commonScale r p) (queuesOver r p) (arrivalsOver r p) l
+
+-- so does every step under an entry that is not counted
+abbrev pub StepTakesAll : Type 0
+StepTakesAll =
+    (s : List ℕ) → Screened s → (r : RunState) (e : ℕ) (p : Step) → InForce s r e → 1 ≤ r .scale → ProperStep s p → entryOverflows s e ≡ false
+    → TakesAll s r p e (stepped s r p)
+
+-- and, where a certificate is accepted with 0, every step of every run
+abbrev pub NoneTurnedAway : Type 0
+NoneTurnedAway =
+    (s : List ℕ) → verdictOf s .number ≡ 0 → overflowsOf s ≡ 0
+    → (mode : ℕ) (queues : List Fraction) (steps : List Step) (e : ℕ)
+    → ProperQueues s queues → ProperSteps s steps → InForce s (start queues mode) e → (k : ℕ) → k < length steps
+    → (f : ℕ) × InForce s (momentOf s (start queues mode) steps k) f
+    × TakesAll s (momentOf s (start queues mode) steps k) (getD steps k noStep) f (momentOf s (start queues mode) steps (k + 1))
