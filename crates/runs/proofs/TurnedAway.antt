@@ -2,7 +2,7 @@
 use Prim.Native.Nat.{ℕ, zero, suc, _+_, _≤_, _<_}
 use mathlib.Core.Bool.{false}
 use mathlib.Core.List.{List, [], _∷_}
-use mathlib.Core.Path.{_≡_}
+use mathlib.Core.Path.{_≡_, refl}
 use native.Mathlib.Nat.{mul-pos}
 use native.Mathlib.Numerals.{add-one}
 use native.Mathlib.Omega.{arith}
@@ -22,10 +22,13 @@ use Rattle.runs.proofs.Moments.{Run, rest}
 
 pub step-takes-all : StepTakesAll
 unfolding moved
-step-takes-all s S r e p F pos P none l lt =
+step-takes-all s S r e p F pos P none =
     let over : 1 ≤ commonScale r p = mul-pos pos (arrivals-scale s p P) in
     let closed = in-closed-cell s (cellOf s e) (commonScale r p) (queuesOver r p) (same-cell s pos over (λ k _. omega arith) (F .cell)) in
-    rw (moves s S r e F pos p) (not-cut s S e (F .exists) none (p .box) (commonScale r p) (queuesOver r p) (arrivalsOver r p) (P .box) over closed (in-box s p P r) l lt)
+    rw (moves s S r e F pos p) record {
+      scale = refl;
+      queue = not-cut s S e (F .exists) none (p .box) (commonScale r p) (queuesOver r p) (arrivalsOver r p) (P .box) over closed (in-box s p P r);
+    }
 
 -- along a run, step by step
 module _ (s : List ℕ) (S : Screened s) (steadily : Steady s) (none : (e : ℕ) → e < entriesOf s → entryOverflows s e ≡ false) where

@@ -36,11 +36,11 @@ RunTheorem = (s : List ℕ) → verdictOf s .number ≡ 0 → RunClaim s
 -- Where arrivals may be turned away (judging `Overflow`).
 
 -- step p from state r to state q takes all arrivals in: on each link the queue after it is what was there, less what is sent, with what is passed
--- in and all that arrives, under entry e and not cut at cap
-abbrev pub TakesAll : List ℕ → RunState → Step → ℕ → RunState → Type 0
-TakesAll s r p e q =
-    (l : ℕ) → l < linksOf s
-    → q .queue l ≡ gross (networkOf s) (entryLimit s e) (commonScale r p) (queuesOver r p) (arrivalsOver r p) l
+-- in and all that arrives, under entry e and not cut at cap; over 10,000 times the common scale
+pub record TakesAll (s : List ℕ) (r : RunState) (p : Step) (e : ℕ) (q : RunState) : Type 0 where
+  pub scale : q .scale ≡ 10000 * commonScale r p
+  pub queue : (l : ℕ) → l < linksOf s
+      → q .queue l ≡ gross (networkOf s) (entryLimit s e) (commonScale r p) (queuesOver r p) (arrivalsOver r p) l
 
 -- so does every step under an entry that is not counted
 abbrev pub StepTakesAll : Type 0
