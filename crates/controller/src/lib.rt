@@ -61,11 +61,11 @@ impl Controller {
     }
 }
 
-// What a load answers: its report, in an acceptance the number of entries that may turn arrivals away, and the next state.
+// What a load answers: its report, the next state, and in an acceptance the number of entries that may turn arrivals away.
 pub struct Loaded {
     pub report: Report,
-    pub overflows: u32,
     pub state: Controller,
+    pub overflows: u32,
 }
 
 // What a query answers: its report, the signal to show and its green byte, and the next state.

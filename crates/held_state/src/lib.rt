@@ -66,11 +66,12 @@ pub fn load(state: &mut [u8], s: &[u8]) -> Verdict
     }
     let loaded = Controller::fresh().load(s);
     let judged = loaded.report;
+    let overflows = loaded.overflows;
     let next = loaded.state;
     packed_state::pack(judged.number, next, state);
     Verdict {
         report: judged,
-        overflows: loaded.overflows,
+        overflows,
     }
 }
 
