@@ -3,10 +3,10 @@
  * A certificate is screened, judged or listed as bytes; or it is loaded into a state, which is a plain array of bytes that the
  * caller owns, and then asked for signals and written out again.
  *
- * Every call but dergvost_fresh is lent a report, a slice of 32-bit numbers. It is filled on refusal too, in this order: number,
- * A, B, count; for judge and load overflows; for a query signal and green byte. Further places stay as they were. Every call returns the number: 0 is
- * success, anything else a refusal, which changes nothing but the report. A report that is too short gets DERGVOST_TOO_SHORT,
- * before every other test, and nothing changes at all.
+ * Every call but dergvost_fresh is lent a report, a slice of 32-bit numbers. It is filled on refusal too, in this order:
+ * number, A, B, count; for judge and load overflows; for a query signal and green byte. Further places stay as they were.
+ * Every call returns the number: 0 is success, anything else a refusal, which changes nothing but the report. A report that is
+ * too short gets DERGVOST_TOO_SHORT, before every other test, and nothing changes at all.
  *
  * What the caller must see to:
  *   - No pointer is null, also where the length is 0. Each points to as many elements as the length beside it says; 32-bit

@@ -20,26 +20,9 @@ use images::ends;
 use successors::ranges;
 use successors::starts;
 
-// The low ends with the arrivals of a box, which stand at every second place from `at` on: at most cap.
-fn low_ends_under(
-    links: usize,
-    caps: &[usize; limits::MAX_LINKS],
-    before: &[usize; limits::MAX_LINKS],
-    arrivals: &[usize; amounts::ARRIVALS],
-    at: usize,
-    ends: &mut [usize; limits::MAX_LINKS],
-)
-    requires { ⌜ (links ≤ maxLinks) × (at + 2 * maxLinks ≤ maxBoxes * arrivalRow + 1) × ((l : ℕ) → l < links → (getD (now before) l 0 ≤ endBound) × (getD (now arrivals) (at + 2 * l) 0 ≤ endBound)) × (length (now ends) ≡ maxLinks) ⌝ }
-    ensures { λ _. ⌜ (length (now (ends .exit)) ≡ maxLinks) × ((l : ℕ) → l < links → getD (now (ends .exit)) l 0 ≡ min (getD (now (caps .entry)) l 0) (getD (now (before .entry)) l 0 + getD (now (arrivals .entry)) (at + 2 * l) 0)) ⌝ }
-{
-    for l in 0..links {
-        ends[l] = ends::end_of(caps[l], before[l], arrivals[at + 2 * l]);
-    }
-}
-
-// The high ends with the arrivals of a box, and for each link whether its end, not cut at cap, exceeds cap; the answer is whether some
-// link's does.
-fn high_ends_under(
+// The low or the high ends with the arrivals of a box, which stand at every second place from `at` on: at most cap; and for each link
+// whether its end, not cut at cap, exceeds cap. The answer is whether some link's does.
+fn ends_under(
     links: usize,
     caps: &[usize; limits::MAX_LINKS],
     before: &[usize; limits::MAX_LINKS],
@@ -62,8 +45,8 @@ fn high_ends_under(
 }
 
 // The image of entry e's cell under its signal and box b: the smallest closed box that holds all exact next queues, and which of them
-// exceed cap where they are not cut. `low` and `high` are its ends before arrivals; `from` and `to` receive its ends, `over` the rest. The
-// answer is whether some link exceeds.
+// exceed cap where they are not cut. `low` and `high` are its ends before arrivals; `from` and `to` receive its ends, `over` what the
+// high ends say, which come last. The answer is whether some link exceeds.
 fn image_of<'a>(
     s: &[u8],
     links: usize,
@@ -80,8 +63,16 @@ fn image_of<'a>(
     requires { ⌜ Screened (now s) × (links ≡ linksOf (now s)) × CapsOf (now s) (now caps) × ArrivalsOf (now s) (now arrivals) × EntryEnds (now s) e (now low) (now high) × (e < entriesOf (now s)) × (b < boxesOf (now s)) × (length (now from) ≡ maxLinks) × (length (now to) ≡ maxLinks) × (length (now over) ≡ maxLinks) ⌝ }
     ensures { λ r. ⌜ EntryImage (now (s .entry)) e b (now (from .exit)) (now (to .exit)) (now (over .exit)) × (length (now (from .exit)) ≡ maxLinks) × (length (now (to .exit)) ≡ maxLinks) × (length (now (over .exit)) ≡ maxLinks) × (r ≡ boxOverflows (now (s .entry)) e b) ⌝ }
 {
-    low_ends_under(links, caps, low, arrivals, amounts::ARRIVAL_ROW * b, from);
-    high_ends_under(
+    ends_under(
+        links,
+        caps,
+        low,
+        arrivals,
+        amounts::ARRIVAL_ROW * b,
+        from,
+        over,
+    );
+    ends_under(
         links,
         caps,
         high,

@@ -1,4 +1,4 @@
--- `entry_search::boxes::high_ends_under` meets its contract. Assumes nothing.
+-- `entry_search::boxes::ends_under` meets its contract. Assumes nothing.
 use Prim.Native.Nat.{ℕ, _+_, _*_, _-_, _≤_, _<_, min}
 use mathlib.Core.Bool.{Bool, false}
 use mathlib.Core.List.{List}
@@ -11,8 +11,8 @@ use lib.ListN.{length, getD, length-set}
 use Rattle.certificate.specs.Loops.{anyTo}
 use Rattle.certificate.proofs.Loops.{any-none, any-more, any-same}
 use Rattle.octets.proofs.FilledTables.{Filled, filled-more, entries-more}
-use Rattle.entry_search.proofs.boxes.high_ends_under.Statement.{statement}
-use Rattle.entry_search.proofs.boxes.high_ends_under.Tie as tie
+use Rattle.entry_search.proofs.boxes.ends_under.Statement.{statement}
+use Rattle.entry_search.proofs.boxes.ends_under.Tie as tie
 
 -- what arrives by the end is added to what was before it
 abbrev uncut : List ℕ → List ℕ → ℕ → ℕ → ℕ
@@ -122,8 +122,8 @@ returns c =
     let over : (k : ℕ) → k < n → getD (c .before .loop .over) k false ≡ _ = λ k lt. v .2 k (omega arith) in
     (v .0 .0, (λ k lt. v .0 .1 k (omega arith)), v .1, over, (rw end at (v .3)) ∙ sym (any-same n _ _ over))
 
-pub high-ends-under-spec : {M : Type 1} → statement M
-high-ends-under-spec =
+pub ends-under-spec : {M : Type 1} → statement M
+ends-under-spec =
     tie.close
     (tie.spec
     Inv-loop
