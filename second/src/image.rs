@@ -1,6 +1,6 @@
-//! The image of a closed cell under a signal and an arrival box.
+//! The image of a closed cell under a signal, the one shown before it, and an arrival box.
 
-use crate::certificate::{Arrival, Certificate, MOST_LINKS};
+use crate::certificate::{Arrival, Certificate, Greens, MOST_LINKS};
 use crate::flow::{caps, cut, uncut_queues, Amounts, FINER};
 use crate::grid::Interval;
 
@@ -62,11 +62,12 @@ fn arrival_ends(arrivals: &[Arrival]) -> [Amounts; 2] {
 }
 
 /// The image, by all corners of the closed cell with the least and the greatest arrivals.
-/// A network that passes both conditions is monotone in each queue, before the cut at cap too, so corners suffice;
-/// arrivals of a link move its own next queue alone, and up.
+/// A network that passes both conditions is monotone in each queue, before the cut at cap too, so corners suffice.
+/// Start flows are at most the flows, so it is monotone with them as well.
+/// Arrivals of a link move its own next queue alone, and up.
 pub fn image(
     certificate: &Certificate,
-    green: u8,
+    greens: Greens,
     cell: &[Interval],
     arrivals: &[Arrival],
 ) -> Image {
@@ -74,7 +75,7 @@ pub fn image(
     let caps = caps(certificate, 1);
     let step = |corner, arrivals| {
         let queues = corner_queues(cell, corner);
-        uncut_queues(certificate, green, &queues, arrivals, 1)
+        uncut_queues(certificate, greens, &queues, arrivals, 1)
     };
     let first = cut(&step(0, &ends[0]), &caps);
     let mut image = Image {

@@ -6,7 +6,7 @@ use crate::grid::{cells, Cell, Interval};
 use crate::image::image;
 use crate::report::{Report, Verdict};
 
-/// Judges any bytes: 0 with the count and the entries that may overflow, or the first refusal of 1 to 15 and 22.
+/// Judges any bytes: 0 with the count and the entries that may overflow, or the first refusal of 1 to 15, 22 and 23.
 pub fn judge(bytes: &[u8]) -> Verdict {
     match read_sound(bytes) {
         Ok(certificate) => judge_entries(&certificate),
@@ -70,10 +70,10 @@ impl Judging<'_> {
         if (entry.rank == 0) != in_goal {
             return Err(Report::at(13, number));
         }
-        let green = self.certificate.signals[usize::from(entry.signal)];
+        let greens = self.certificate.greens(entry);
         let mut overflows = false;
         for arrivals in &self.certificate.arrivals {
-            let image = image(self.certificate, green, cell, arrivals);
+            let image = image(self.certificate, greens, cell, arrivals);
             overflows |= image.overflows();
             for (successor, other) in self.cells.iter().enumerate() {
                 if image.meets(other) {

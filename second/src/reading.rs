@@ -1,68 +1,14 @@
-//! Reading a certificate from bytes: refusals 1 to 9 and 22.
+//! Reading a certificate from bytes: refusals 1 to 9, 22 and 23.
 
-use crate::certificate::{Arrival, Certificate, Entry, Link, Turn, MOST_AMOUNT, MOST_CELLS};
+mod reader;
+
+use crate::certificate::{Arrival, Certificate, Entry, Kind, Link, Turn, MOST_AMOUNT, MOST_CELLS};
 use crate::report::Report;
+use reader::{wide, Reader};
 
-/// Bytes, and the offset of the next record.
-struct Reader<'a> {
-    bytes: &'a [u8],
-    offset: usize,
-}
-
-impl<'a> Reader<'a> {
-    /// Takes `size` bytes for the record that starts at `start`.
-    fn take(&mut self, start: usize, size: usize) -> Result<&'a [u8], Report> {
-        let left = &self.bytes[self.offset..];
-        if left.len() < size {
-            return Err(Report::at(1, start));
-        }
-        self.offset += size;
-        Ok(&left[..size])
-    }
-
-    /// Takes a record: mark present, mark right, record whole. `size` counts the bytes after the mark.
-    fn record(&mut self, mark: &[u8; 2], size: usize) -> Result<Record<'a>, Report> {
-        let offset = self.offset;
-        if self.take(offset, 2)? != mark {
-            return Err(Report::at(2, offset));
-        }
-        let fields = self.take(offset, size)?;
-        Ok(Record { offset, fields })
-    }
-}
-
-/// A record that is present: the offset of its mark, and the bytes after the mark.
-struct Record<'a> {
-    offset: usize,
-    fields: &'a [u8],
-}
-
-impl Record<'_> {
-    fn byte(&self, at: usize) -> u8 {
-        self.fields[at]
-    }
-
-    fn wide(&self, at: usize) -> u16 {
-        wide(self.fields, at)
-    }
-
-    /// Refusal `number` at this record unless its line holds.
-    fn must(&self, number: u32, line_holds: bool) -> Result<(), Report> {
-        if line_holds {
-            Ok(())
-        } else {
-            Err(Report::at(number, self.offset))
-        }
-    }
-}
-
-/// A two-byte number, high byte first.
-fn wide(bytes: &[u8], at: usize) -> u16 {
-    u16::from_be_bytes([bytes[at], bytes[at + 1]])
-}
-
-/// Counts of HD.
+/// Kind and counts of the first record.
 struct Header {
+    kind: Kind,
     links: usize,
     turns: usize,
     signals: usize,
@@ -73,48 +19,78 @@ struct Header {
 
 /// Reads a whole certificate, or tells the first refusal.
 pub fn read(bytes: &[u8]) -> Result<Certificate, Report> {
-    let mut reader = Reader { bytes, offset: 0 };
+    let mut reader = Reader::of(bytes);
     let header = read_header(&mut reader)?;
     let mut certificate = Certificate {
+        kind: header.kind,
         links: Vec::new(),
         turns: Vec::new(),
         signals: Vec::new(),
         modes: header.modes,
+        memory: Vec::new(),
         cuts: Vec::new(),
         arrivals: Vec::new(),
         entries: Vec::new(),
     };
-    for _ in 0..header.links {
-        certificate.links.push(read_link(&mut reader)?);
-    }
-    for _ in 0..header.turns {
-        let turn = read_turn(&mut reader, &certificate)?;
-        certificate.turns.push(turn);
-    }
-    for _ in 0..header.signals {
-        let green = read_signal(&mut reader, header.links)?;
-        certificate.signals.push(green);
-    }
-    let mut cells = 1;
-    for link in 0..header.links {
-        let cuts = read_grid(&mut reader, certificate.links[link].cap, &mut cells)?;
-        certificate.cuts.push(cuts);
-    }
-    for _ in 0..header.arrivals {
-        let arrivals = read_arrivals(&mut reader, header.links)?;
-        certificate.arrivals.push(arrivals);
-    }
-    for _ in 0..header.entries {
-        let entry = read_entry(&mut reader, &certificate, cells)?;
-        certificate.entries.push(entry);
-    }
+    read_network(&mut reader, &header, &mut certificate)?;
+    read_policy(&mut reader, &header, &mut certificate)?;
     read_end(&mut reader)?;
     Ok(certificate)
 }
 
+/// Links, turns, signals and, in an H2 certificate, modes.
+fn read_network(
+    reader: &mut Reader,
+    header: &Header,
+    certificate: &mut Certificate,
+) -> Result<(), Report> {
+    for _ in 0..header.links {
+        certificate.links.push(read_link(reader, header.kind)?);
+    }
+    for _ in 0..header.turns {
+        let turn = read_turn(reader, certificate)?;
+        certificate.turns.push(turn);
+    }
+    for _ in 0..header.signals {
+        let green = read_signal(reader, header.links)?;
+        certificate.signals.push(green);
+    }
+    if header.kind == Kind::H2 {
+        for _ in 0..header.modes {
+            let signal = read_mode(reader, header.signals)?;
+            certificate.memory.push(signal);
+        }
+    }
+    Ok(())
+}
+
+/// Grid, arrival boxes and entries.
+fn read_policy(
+    reader: &mut Reader,
+    header: &Header,
+    certificate: &mut Certificate,
+) -> Result<(), Report> {
+    let mut cells = 1;
+    for link in 0..header.links {
+        let cuts = read_grid(reader, certificate.links[link].cap, &mut cells)?;
+        certificate.cuts.push(cuts);
+    }
+    for _ in 0..header.arrivals {
+        let arrivals = read_arrivals(reader, header.links)?;
+        certificate.arrivals.push(arrivals);
+    }
+    for _ in 0..header.entries {
+        let entry = read_entry(reader, certificate, cells)?;
+        certificate.entries.push(entry);
+    }
+    Ok(())
+}
+
+/// The first record, whose mark tells the kind.
 fn read_header(reader: &mut Reader) -> Result<Header, Report> {
-    let record = reader.record(b"HD", 7)?;
+    let (record, kind) = reader.record_of_kind(7)?;
     let header = Header {
+        kind,
         links: record.byte(0).into(),
         turns: record.byte(1).into(),
         signals: record.byte(2).into(),
@@ -131,8 +107,13 @@ fn read_header(reader: &mut Reader) -> Result<Header, Report> {
     Ok(header)
 }
 
-fn read_link(reader: &mut Reader) -> Result<Link, Report> {
-    let record = reader.record(b"LK", 10)?;
+/// Reads a link; in an H2 certificate two bytes more, the start flow.
+fn read_link(reader: &mut Reader, kind: Kind) -> Result<Link, Report> {
+    let size = match kind {
+        Kind::Hd => 10,
+        Kind::H2 => 12,
+    };
+    let record = reader.record(b"LK", size)?;
     let link = Link {
         tail: record.byte(0),
         head: record.byte(1),
@@ -140,12 +121,16 @@ fn read_link(reader: &mut Reader) -> Result<Link, Report> {
         flow: record.wide(4),
         safe: record.wide(6),
         goal: record.wide(8),
+        start: (kind == Kind::H2).then(|| record.wide(10)),
     };
     record.must(4, link.head >= 1 && link.head != link.tail)?;
     record.must(4, (1..=MOST_AMOUNT).contains(&link.cap))?;
     record.must(4, (1..=link.cap).contains(&link.flow))?;
     record.must(4, link.safe <= link.cap)?;
     record.must(4, link.goal <= link.safe)?;
+    if let Some(start) = link.start {
+        record.must(4, (1..=link.flow).contains(&start))?;
+    }
     Ok(link)
 }
 
@@ -179,6 +164,14 @@ fn read_signal(reader: &mut Reader, links: usize) -> Result<u8, Report> {
     Ok(green)
 }
 
+/// Reads the signal that a mode remembers.
+fn read_mode(reader: &mut Reader, signals: usize) -> Result<u8, Report> {
+    let record = reader.record(b"MD", 1)?;
+    let signal = record.byte(0);
+    record.must(6, usize::from(signal) < signals)?;
+    Ok(signal)
+}
+
 /// Reads the cuts of one link. `cells` is the product of the counts so far.
 fn read_grid(reader: &mut Reader, cap: u16, cells: &mut usize) -> Result<Vec<u16>, Report> {
     let record = reader.record(b"GR", 1)?;
@@ -206,7 +199,7 @@ fn read_arrivals(reader: &mut Reader, links: usize) -> Result<Vec<Arrival>, Repo
 }
 
 /// Reads an entry; the certificate holds the entries before it. 9 is for names that do not exist, 22 for a pair that is
-/// not above the one before.
+/// not above the one before, 23 for a next mode that remembers another signal than the entry's.
 fn read_entry(
     reader: &mut Reader,
     certificate: &Certificate,
@@ -227,14 +220,15 @@ fn read_entry(
     if let Some(before) = certificate.entries.last() {
         record.must(22, (before.cell, before.mode) < (entry.cell, entry.mode))?;
     }
+    if certificate.kind == Kind::H2 {
+        let remembered = certificate.memory[usize::from(entry.next)];
+        record.must(23, remembered == entry.signal)?;
+    }
     Ok(entry)
 }
 
 /// ZZ, and nothing after it.
 fn read_end(reader: &mut Reader) -> Result<(), Report> {
     reader.record(b"ZZ", 0)?;
-    if reader.offset < reader.bytes.len() {
-        return Err(Report::at(2, reader.offset));
-    }
-    Ok(())
+    reader.must_end()
 }

@@ -3,6 +3,7 @@
 mod common;
 
 use common::{bytes, l_with, L, L_TEXT};
+use second::certificate::Greens;
 use second::conditions::{check_flows, check_pull_sums};
 use second::flow::{next_queues, Amounts, FINER};
 use second::grid::{cell_of, cells};
@@ -84,7 +85,8 @@ fn p6_shared_supply() {
          entry cell 0 mode 0 signal 0 next 0 rank 0
          end",
     );
-    let next = next_queues(&two_links, 1, &amounts(&[10, 20]), &amounts(&[]), 1);
+    let green = Greens::same(1);
+    let next = next_queues(&two_links, green, &amounts(&[10, 20]), &amounts(&[]), 1);
     // 3.2 and 22.244
     assert_eq!(next, amounts(&[32_000, 222_440]));
 }
@@ -92,7 +94,7 @@ fn p6_shared_supply() {
 #[test]
 fn p7_red_link_keeps_to_its_cap() {
     let red = certificate(&L_TEXT.replace("green 0", "green none"));
-    let next = next_queues(&red, 0, &amounts(&[19]), &amounts(&[4]), 2);
+    let next = next_queues(&red, Greens::same(0), &amounts(&[19]), &amounts(&[4]), 2);
     assert_eq!(next, amounts(&[10 * 2 * FINER]));
 }
 
@@ -179,7 +181,8 @@ fn p11_link_with_the_same_tail_pushes_down() {
     let cell = &cells(&shared)[9];
     let edges: Vec<_> = cell.iter().map(|i| (i.low, i.high)).collect();
     assert_eq!(edges, [(10, 11), (20, 21), (20, 40)]);
-    let image = image(&shared, shared.signals[0], cell, &shared.arrivals[0]);
+    let green = Greens::same(shared.signals[0]);
+    let image = image(&shared, green, cell, &shared.arrivals[0]);
     assert_eq!((image.low[1], image.high[1]), (200_000, 242_300));
 }
 

@@ -164,6 +164,52 @@ fn bad_changes() {
 }
 
 #[test]
+fn bad_changes_of_kinds() {
+    malformed(
+        "other-kind",
+        "paper f from e\nset header kind H3\n",
+        "",
+        "x.cases:4: expected `HD` or `H2`, found `H3`",
+    );
+    malformed(
+        "kind-twice",
+        "paper f from e\nset header kind H2 links 1 kind HD\n",
+        "",
+        "x.cases:4: expected one of `kind`, `links`, `turns`, `signals`, `modes`, `arrivals`, `entries`, \
+         each at most once, found `kind`",
+    );
+}
+
+#[test]
+fn bad_changes_of_modes() {
+    malformed(
+        "no-mode",
+        "paper f from e\nset mode 0 signal 1\n",
+        "",
+        "x.cases:4: expected a certificate with mode 0",
+    );
+    malformed(
+        "mode-field",
+        "paper f\nmode signal 0\nend\npaper g from f\nset mode 0 next 1\n",
+        "",
+        "x.cases:7: expected one of `signal`, each at most once, found `next`",
+    );
+    malformed(
+        "set-signal",
+        "paper f from e\nset signal 0 green 1\n",
+        "",
+        "x.cases:4: expected one of `header`, `link`, `turn`, `mode`, `entry`, found `signal`",
+    );
+    malformed(
+        "remove-header",
+        "paper f from e\nremove header\n",
+        "",
+        "x.cases:4: expected one of `link`, `turn`, `signal`, `mode`, `grid`, `arrivals`, `entry`, `end`, \
+         found `header`",
+    );
+}
+
+#[test]
 fn bad_calls_and_results() {
     malformed(
         "unknown-call",
@@ -189,7 +235,7 @@ fn bad_calls_and_results() {
 #[test]
 fn later_numbers_are_told() {
     let cases = format!("{EMPTY}case c\nload e\nload e\n");
-    let due = "case c\nload 23 0 0 0 mode 0 length 0\nload 28 0 0 0 mode 0 length 0\n";
+    let due = "case c\nload 24 0 0 0 mode 0 length 0\nload 28 0 0 0 mode 0 length 0\n";
     let told = run(&folder("later", &cases, due)).unwrap();
     assert_eq!((told.calls, told.agreed()), (2, 0));
     let got = "due load 28 0 0 0 mode 0 length 0\n  got load 3 0 0 0 mode 0 length 0";

@@ -4,7 +4,7 @@ mod common;
 
 use common::large::Large;
 use common::program::{ends, ends_with_2, second};
-use common::{bytes, crossing, l_with, L};
+use common::{bytes, crossing, l_with, start, start_crossing, start_with, L};
 use std::fs;
 use std::path::Path;
 
@@ -35,6 +35,9 @@ fn round_trips() {
     goes_round(&crossing());
     // Refused by judging, but it can be read.
     goes_round(&l_with("arrivals 0-2", "arrivals 0-3"));
+    goes_round(&start());
+    goes_round(&bytes(&start_crossing()));
+    goes_round(&start_with("start 2", "start 6"));
 }
 
 #[test]
@@ -45,6 +48,7 @@ fn largest() {
         rank: |cell, mode| Some((cell * 8 + mode) as u16),
     };
     goes_round(&large.bytes());
+    goes_round(&large.start_bytes());
     let cells = Large {
         counts: [8, 8, 4, 4, 2, 2, 1, 1],
         modes: 1,
@@ -56,6 +60,13 @@ fn largest() {
         9 + 8 * 12 + 32 * 7 + 16 * 3 + 8 * 3 + 22 * 2 + 8 * 34 + 4_096 * 9 + 2
     );
     goes_round(&cells);
+    let longest = Large {
+        counts: [15, 15, 15, 1, 1, 1, 1, 1],
+        modes: 8,
+        rank: |_, _| Some(0),
+    };
+    assert_eq!(longest.start_bytes().len(), 37_663);
+    goes_round(&longest.start_bytes());
 }
 
 #[test]
@@ -72,6 +83,8 @@ fn what_cannot_be_read() {
         b"",
         "-: refused 22 46 0 0\n",
     );
+    let other = start_with("next 2 rank 3", "next 1 rank 3");
+    ends(&["decode", "-"], &other, 1, b"", "-: refused 23 87 0 0\n");
     ends_with_2(
         &["decode", "no/such/file"],
         b"",

@@ -3,7 +3,8 @@
 mod common;
 
 use common::large::Large;
-use common::{bytes, crossing, BESIDE, L};
+use common::{bytes, crossing, start, BESIDE, L};
+use second::certificate::Kind;
 use second::draw::draw;
 
 /// What a rectangle holds, and its edges in tenths of a pixel.
@@ -129,26 +130,38 @@ fn labels_stand_apart(name: &str, picture: &str) {
 fn picture(certificate: &[u8], links: Option<[usize; 2]>) -> String {
     let (picture, verdict) = draw(certificate, links).unwrap();
     let number = verdict.report.number;
-    assert!(number == 0 || number > 9, "{verdict}");
+    assert!(number == 0 || (10..=15).contains(&number), "{verdict}");
     picture
 }
 
 /// A certificate with these links, from tail to head, and amounts of many lengths.
-fn network(ends: &[(u8, u8)]) -> Vec<u8> {
+fn network(ends: &[(u8, u8)], kind: Kind) -> Vec<u8> {
     let mut text = String::new();
     for (i, (tail, head)) in ends.iter().enumerate() {
-        let amounts = [
-            "cap 40 flow 12 safe 30 goal 10",
-            "cap 10000 flow 10000 safe 10000 goal 10000",
-            "cap 120 flow 1 safe 0 goal 0",
-        ];
-        text += &format!("link tail {tail} head {head} {}\n", amounts[i % 3]);
+        let (amounts, start) = [
+            ("cap 40 flow 12 safe 30 goal 10", " start 8"),
+            ("cap 10000 flow 10000 safe 10000 goal 10000", " start 10000"),
+            ("cap 120 flow 1 safe 0 goal 0", " start 1"),
+        ][i % 3];
+        let start = if kind == Kind::H2 { start } else { "" };
+        text += &format!("link tail {tail} head {head} {amounts}{start}\n");
     }
-    text += "signal green none\n";
+    text += &"signal green none\n".repeat(16);
+    if kind == Kind::H2 {
+        text = format!("header kind H2\n{text}{}", "mode signal 15\n".repeat(3));
+    }
     text += &"grid 1 39\n".repeat(ends.len().min(3));
     text += &"grid\n".repeat(ends.len().saturating_sub(3));
     text += &format!("arrivals{}\n", " 0-1".repeat(ends.len()));
-    bytes(&(text + "entry cell 0..2 mode 0..2 signal 0 next 1 rank 65535\nend\n"))
+    bytes(&(text + "entry cell 0..2 mode 0..2 signal 15 next 1 rank 65535\nend\n"))
+}
+
+/// The labels of a network stand apart in a certificate of either kind.
+fn labels_of_network(ends: &[(u8, u8)]) {
+    for kind in Kind::ALL {
+        let picture = picture(&network(ends, kind), None);
+        labels_stand_apart(&format!("{kind:?} {ends:?}"), &picture);
+    }
 }
 
 #[test]
@@ -175,8 +188,7 @@ fn of_known_networks() {
         &ring,
         &[(0, 255); 8],
     ] {
-        let picture = picture(&network(ends), None);
-        labels_stand_apart(&format!("{ends:?}"), &picture);
+        labels_of_network(ends);
     }
 }
 
@@ -199,8 +211,7 @@ fn of_random_networks() {
                 ends.push((tail, head));
             }
         }
-        let picture = picture(&network(&ends), None);
-        labels_stand_apart(&format!("{ends:?}"), &picture);
+        labels_of_network(&ends);
     }
 }
 
@@ -216,17 +227,26 @@ fn of_large_certificates() {
             modes,
             rank: |cell, mode| (cell % 7 > 0).then_some(65_535 - (cell + mode) as u16),
         };
-        let bytes = large.bytes();
-        for links in [None, Some([7, 0]), Some([1, 7])] {
-            let picture = picture(&bytes, links);
-            labels_stand_apart(&format!("{counts:?} {links:?}"), &picture);
+        for bytes in [large.bytes(), large.start_bytes()] {
+            for links in [None, Some([7, 0]), Some([1, 7])] {
+                let picture = picture(&bytes, links);
+                labels_stand_apart(&format!("{counts:?} {links:?}"), &picture);
+            }
         }
     }
 }
 
 #[test]
 fn of_small_certificates() {
-    for certificate in [&L[..], &L[..65], &crossing(), &bytes(BESIDE)] {
+    let start = start();
+    for certificate in [
+        &L[..],
+        &L[..65],
+        &crossing(),
+        &bytes(BESIDE),
+        &start,
+        &start[..30],
+    ] {
         let (picture, _) = draw(certificate, None).unwrap();
         labels_stand_apart("small", &picture);
     }

@@ -3,7 +3,7 @@
 mod common;
 
 use common::bytes;
-use second::certificate::is_green;
+use second::certificate::{is_green, Greens, Kind};
 use second::conditions::read_sound;
 use second::flow::{caps, next_queues, uncut_queues, Amounts, FINER};
 use second::grid::{cells, Interval};
@@ -22,19 +22,33 @@ impl Numbers {
     }
 }
 
-/// A small network of junctions 1 to 3 with random links, turns, signals and cuts.
-fn network(numbers: &mut Numbers) -> String {
-    let count = numbers.between(2, 5);
+/// Two to five links by tail and head, and the text up to them.
+fn links(numbers: &mut Numbers, kind: Kind) -> (Vec<(u64, u64)>, String) {
     let mut ends = Vec::new();
     let mut text = String::new();
-    for _ in 0..count {
+    if kind == Kind::H2 {
+        text += "header kind H2\n";
+    }
+    for _ in 0..numbers.between(2, 5) {
         let tail = numbers.between(0, 3);
         let head = 1 + (tail + numbers.between(0, 1)) % 3;
         let cap = numbers.between(10, 40);
         let flow = numbers.between(1, 6);
         ends.push((tail, head));
-        text += &format!("link tail {tail} head {head} cap {cap} flow {flow} safe {cap} goal 0\n");
+        text += &format!("link tail {tail} head {head} cap {cap} flow {flow} safe {cap} goal 0");
+        if kind == Kind::H2 {
+            text += &format!(" start {}", numbers.between(1, flow));
+        }
+        text += "\n";
     }
+    (ends, text)
+}
+
+/// A small network of junctions 1 to 3 with random links, turns, signals and cuts. In an H2 certificate the links have
+/// start flows, and the mode remembers the second signal.
+fn network(numbers: &mut Numbers, kind: Kind) -> String {
+    let (ends, mut text) = links(numbers, kind);
+    let count = ends.len() as u64;
     for from in 0..ends.len() {
         for to in 0..ends.len() {
             if ends[from].1 == ends[to].0 && numbers.between(0, 3) > 0 {
@@ -44,7 +58,12 @@ fn network(numbers: &mut Numbers) -> String {
             }
         }
     }
-    text += &format!("signal byte {:02X}\n", numbers.between(0, (1 << count) - 1));
+    for _ in 0..2 {
+        text += &format!("signal byte {:02X}\n", numbers.between(0, (1 << count) - 1));
+    }
+    if kind == Kind::H2 {
+        text += "mode signal 1\n";
+    }
     for _ in 0..count {
         let first = numbers.between(1, 4);
         text += &format!("grid {first} {}\n", first + numbers.between(1, 4));
@@ -54,7 +73,7 @@ fn network(numbers: &mut Numbers) -> String {
         .collect::<Vec<_>>();
     let pairs = lows.iter().map(|low| format!(" {low}-{}", low + 1));
     text += &format!("arrivals{}\n", pairs.collect::<String>());
-    text + "entry cell 0 mode 0 signal 0 next 0 rank 0\nend\n"
+    text + "entry cell 0 mode 0 signal 1 next 0 rank 0\nend\n"
 }
 
 /// A point of each range, over `scale`.
@@ -67,6 +86,14 @@ fn point(numbers: &mut Numbers, ranges: &[(u16, u16)], scale: u64) -> Amounts {
     point
 }
 
+/// The first signal after the second.
+fn greens(certificate: &Certificate) -> Greens {
+    Greens {
+        now: certificate.signals[0],
+        before: certificate.signals[1],
+    }
+}
+
 /// Steps from points of a closed cell stay in its image, which meets the cell they lead to and tells where a link may
 /// exceed its cap. Tells how many steps had such a link.
 fn sample(
@@ -75,9 +102,9 @@ fn sample(
     all: &[Vec<Interval>],
     numbers: &mut Numbers,
 ) -> usize {
-    let green = certificate.signals[0];
+    let greens = greens(certificate);
     let arrivals = &certificate.arrivals[0];
-    let image = image(certificate, green, cell, arrivals);
+    let image = image(certificate, greens, cell, arrivals);
     let sides: Vec<_> = cell.iter().map(|i| (i.low, i.high)).collect();
     let ranges: Vec<_> = arrivals.iter().map(|a| (a.low, a.high)).collect();
     let mut exceeding = 0;
@@ -86,12 +113,12 @@ fn sample(
         let queues = point(numbers, &sides, scale);
         let come = point(numbers, &ranges, scale);
         let scale = i128::from(scale);
-        let next = next_queues(certificate, green, &queues, &come, scale);
+        let next = next_queues(certificate, greens, &queues, &come, scale);
         for (link, &queue) in next.iter().enumerate() {
             assert!(image.low[link] * scale <= queue);
             assert!(queue <= image.high[link] * scale);
         }
-        let uncut = uncut_queues(certificate, green, &queues, &come, scale);
+        let uncut = uncut_queues(certificate, greens, &queues, &come, scale);
         let caps = caps(certificate, scale);
         let over = uncut.iter().zip(&caps).map(|(queue, cap)| queue > cap);
         let over: Vec<bool> = over.collect();
@@ -108,36 +135,43 @@ fn sample(
     exceeding
 }
 
+/// Is there a turn from a green link, in an H2 certificate one that was red before?
+fn is_telling(certificate: &Certificate) -> bool {
+    let Greens { now, before } = greens(certificate);
+    let starts = |link| certificate.kind == Kind::Hd || !is_green(before, link);
+    let mut from = certificate.turns.iter().map(|turn| turn.from);
+    from.any(|link| is_green(now, link) && starts(link))
+}
+
 #[test]
 fn images_hold_every_sampled_step() {
-    let mut numbers = Numbers(1);
-    let (mut sampled, mut passing, mut exceeding) = (0, 0, 0);
-    for _ in 0..3_000 {
-        let Ok(certificate) = read_sound(&bytes(&network(&mut numbers))) else {
-            continue;
-        };
-        let green = certificate.signals[0];
-        if !certificate
-            .turns
-            .iter()
-            .any(|turn| is_green(green, turn.from))
-        {
-            continue;
+    for kind in Kind::ALL {
+        let mut numbers = Numbers(1);
+        let (mut sampled, mut passing, mut exceeding) = (0, 0, 0);
+        for _ in 0..3_000 {
+            let read = read_sound(&bytes(&network(&mut numbers, kind)));
+            let Ok(certificate) = read else {
+                continue;
+            };
+            assert_eq!(certificate.kind, kind);
+            if !is_telling(&certificate) {
+                continue;
+            }
+            passing += 1;
+            let all = cells(&certificate);
+            for _ in 0..10 {
+                let cell = numbers.between(0, all.len() as u64 - 1) as usize;
+                exceeding += sample(&certificate, &all[cell], &all, &mut numbers);
+                sampled += 1;
+            }
         }
-        passing += 1;
-        let all = cells(&certificate);
-        for _ in 0..10 {
-            let cell = numbers.between(0, all.len() as u64 - 1) as usize;
-            exceeding += sample(&certificate, &all[cell], &all, &mut numbers);
-            sampled += 1;
-        }
+        assert!(passing > 100, "{kind:?}: {passing}");
+        assert_eq!(sampled, 10 * passing);
+        assert!(
+            exceeding > sampled && exceeding < 15 * sampled,
+            "{kind:?}: {exceeding} of {sampled}"
+        );
     }
-    assert!(passing > 100, "{passing}");
-    assert_eq!(sampled, 10 * passing);
-    assert!(
-        exceeding > sampled && exceeding < 15 * sampled,
-        "{exceeding} of {sampled}"
-    );
 }
 
 /// Eight green links, all of whose cells are goal, under arrivals that may lead anywhere.

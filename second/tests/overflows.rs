@@ -3,6 +3,7 @@
 mod common;
 
 use common::{bytes, BESIDE, L, L_TEXT};
+use second::certificate::Greens;
 use second::conditions::read_sound;
 use second::flow::{next_queues, uncut_queues, FINER};
 use second::grid::cells;
@@ -19,7 +20,8 @@ fn over(text: &str, cell: usize, arrivals: usize) -> Vec<bool> {
     let certificate = sound(text);
     let cell = &cells(&certificate)[cell];
     let arrivals = &certificate.arrivals[arrivals];
-    let image = image(&certificate, certificate.signals[0], cell, arrivals);
+    let greens = Greens::same(certificate.signals[0]);
+    let image = image(&certificate, greens, cell, arrivals);
     let links = certificate.links.len();
     assert!(image.over[links..].iter().all(|over| !over));
     assert_eq!(image.overflows(), image.over.contains(&true));
@@ -103,7 +105,7 @@ fn the_link_beside_is_at_its_lower_edge() {
     let step = |beside: i128| {
         let queues = [11, 21, beside, 0, 0, 0, 0, 0];
         let arrivals = [0, 16, 0, 0, 0, 0, 0, 0];
-        uncut_queues(&certificate, 1, &queues, &arrivals, 1)[1]
+        uncut_queues(&certificate, Greens::same(1), &queues, &arrivals, 1)[1]
     };
     assert_eq!((step(20), step(40)), (402_300, 370_000));
 }
@@ -132,12 +134,11 @@ fn fractions_just_above_cap() {
     assert_eq!(over(&red, 0, 0), [false, false]);
     let certificate = sound(&fractions(1));
     let (queues, arrivals) = ([40, 39, 0, 0, 0, 0, 0, 0], [0, 1, 0, 0, 0, 0, 0, 0]);
-    let uncut = uncut_queues(&certificate, 1, &queues, &arrivals, 1);
+    let green = Greens::same(1);
+    let uncut = uncut_queues(&certificate, green, &queues, &arrivals, 1);
     assert_eq!(uncut[1], 401_122);
-    assert_eq!(
-        next_queues(&certificate, 1, &queues, &arrivals, 1)[1],
-        40 * FINER
-    );
+    let next = next_queues(&certificate, green, &queues, &arrivals, 1);
+    assert_eq!(next[1], 40 * FINER);
 }
 
 /// The least amount above cap that whole queues and arrivals can lead to: 101.0001.

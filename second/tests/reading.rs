@@ -1,8 +1,8 @@
-//! Refusals 1 to 8 with their order and places, and damaged inputs.
+//! Refusals 1 to 8 of HD certificates with their order and places, and damaged inputs.
 
 mod common;
 
-use common::{bytes, crossing, CROSSING, L};
+use common::{bytes, crossing, start, CROSSING, L};
 use second::reading::read;
 use second::{judge, Report};
 
@@ -42,6 +42,8 @@ fn wrong_mark_comes_before_a_short_record() {
     refused(b"x", 1, 0);
     refused(b"HX", 2, 0);
     refused(b"HD", 1, 0);
+    refused(b"H2", 1, 0);
+    refused(b"H3", 2, 0);
     refused(&l_poked(9, b"X")[..11], 2, 9);
     refused(&l_poked(9, b"X")[..10], 1, 9);
 }
@@ -78,6 +80,14 @@ fn link_fields() {
     ] {
         refused(&l_poked(offset, new), 4, 9);
     }
+}
+
+/// L under the mark of the other kind: what follows its link stands for the start flow.
+#[test]
+fn l_opened_as_h2() {
+    refused(&l_poked(1, b"2"), 4, 9);
+    refused(&l_poked(1, b"2")[..23], 4, 9);
+    refused(&l_poked(1, b"2")[..22], 1, 9);
 }
 
 /// The crossing's second turn starts at 9 + 3 × 12 + 7.
@@ -167,7 +177,7 @@ fn byte_after_the_end_comes_before_conditions() {
 
 #[test]
 fn damage_never_panics() {
-    for whole in [L.to_vec(), crossing()] {
+    for whole in [L.to_vec(), crossing(), start()] {
         for length in 0..=whole.len() {
             judge(&whole[..length]);
         }

@@ -213,7 +213,7 @@ fn small_stream() {
     assert_eq!(expected(&folder).unwrap(), text);
 }
 
-/// 65,536 bytes may stand in a case, no more; a paper that no case names may be longer.
+/// 40,960 bytes may stand in a case, no more; a paper that no case names may be longer.
 #[test]
 fn longest_paper() {
     let long = |count: usize| {

@@ -145,14 +145,19 @@ fn more_bad_lines() {
     fault(
         "header turns 1 links 1",
         1,
-        "expected `links`, `turns`, `signals`, `modes`, `arrivals` and `entries`, \
+        "expected `kind H2`, `links`, `turns`, `signals`, `modes`, `arrivals` and `entries`, \
          each at most once and in this order, found `links`",
     );
     fault(
         "road 1",
         1,
-        "expected `header`, `link`, `turn`, `signal`, `grid`, `arrivals`, `entry`, `end` or `bytes`, found `road`",
+        "expected `header`, `link`, `turn`, `signal`, `mode`, `grid`, `arrivals`, `entry`, `end` or `bytes`, \
+         found `road`",
     );
+}
+
+#[test]
+fn counts_that_do_not_fit() {
     fault(
         "entry cell 0 mode 0 signal 0 next 255 rank 0\nend",
         2,

@@ -44,6 +44,16 @@ link40 tail head = 0x4C ∷ 0x4B ∷ tail ∷ head ∷ 0 ∷ 40 ∷ 0 ∷ 10 ∷
 abbrev pub turnOf : ℕ → ℕ → ℕ → ℕ → List ℕ
 turnOf from to share pull = 0x54 ∷ 0x4E ∷ from ∷ to ∷ share ∷ 0 ∷ pull ∷ []
 
+-- in H2: the same with a start flow; what a mode remembers; the signal of link 0 green, and that of no link
+abbrev pub startLink : List ℕ → ℕ → List ℕ
+startLink link start = link ++ (0 ∷ start ∷ [])
+
+abbrev pub modeAfter : ℕ → List ℕ
+modeAfter signal = 0x4D ∷ 0x44 ∷ signal ∷ []
+
+abbrev pub greenThenRed : List ℕ
+greenThenRed = (0x53 ∷ 0x47 ∷ 0b01 ∷ []) ++ (0x53 ∷ 0x47 ∷ 0b00 ∷ [])
+
 -- one interval for the whole link
 abbrev pub whole : List ℕ
 whole = 0x47 ∷ 0x52 ∷ 1 ∷ []
@@ -84,3 +94,32 @@ fork =
     ++ (0x53 ∷ 0x47 ∷ 0b001 ∷ [])
     ++ (0x47 ∷ 0x52 ∷ 3 ∷ 0 ∷ 10 ∷ 0 ∷ 11 ∷ []) ++ (0x47 ∷ 0x52 ∷ 3 ∷ 0 ∷ 20 ∷ 0 ∷ 21 ∷ []) ++ (0x47 ∷ 0x52 ∷ 2 ∷ 0 ∷ 20 ∷ [])
     ++ noArrivals 12 ++ oneEntry
+
+-- P6 as H2 with start flows of 4: signal 1 has no green link
+abbrev pub twoLinksStart : List ℕ
+twoLinksStart =
+    (0x48 ∷ 0x32 ∷ 2 ∷ 1 ∷ 2 ∷ 1 ∷ 1 ∷ 0 ∷ 1 ∷ []) ++ startLink (link40 0 1) 4 ++ startLink (link40 1 2) 4 ++ turnOf 0 1 33 34
+    ++ greenThenRed ++ modeAfter 0 ++ whole ++ whole ++ noArrivals 8 ++ oneEntry
+
+-- one link of cap 10 and flow 6, safe 10, goal 5, and three modes; all entries show signal 0
+abbrev pub oneLink : List ℕ
+oneLink = 0x4C ∷ 0x4B ∷ 0 ∷ 1 ∷ 0 ∷ 10 ∷ 0 ∷ 6 ∷ 0 ∷ 10 ∷ 0 ∷ 5 ∷ []
+
+abbrev pub greenEntry : ℕ → ℕ → ℕ → ℕ → List ℕ
+greenEntry cell mode next rank = 0x45 ∷ 0x4E ∷ 0 ∷ cell ∷ mode ∷ 0 ∷ next ∷ 0 ∷ rank ∷ []
+
+abbrev pub gridAndEntries : List ℕ
+gridAndEntries =
+    (0x47 ∷ 0x52 ∷ 3 ∷ 0 ∷ 5 ∷ 0 ∷ 8 ∷ []) ++ (0x41 ∷ 0x52 ∷ 0 ∷ 0 ∷ 0 ∷ 2 ∷ [])
+    ++ greenEntry 0 0 0 0 ++ greenEntry 1 0 0 1 ++ greenEntry 1 2 0 1 ++ greenEntry 2 0 0 2 ++ greenEntry 2 1 2 3 ++ greenEntry 2 2 0 2
+    ++ (0x5A ∷ 0x5A ∷ [])
+
+-- start: H2 with start flow 2; mode 1 remembers the red signal
+abbrev pub paperStart : List ℕ
+paperStart =
+    (0x48 ∷ 0x32 ∷ 1 ∷ 0 ∷ 2 ∷ 3 ∷ 1 ∷ 0 ∷ 6 ∷ []) ++ startLink oneLink 2 ++ greenThenRed ++ modeAfter 0 ++ modeAfter 1 ++ modeAfter 0
+    ++ gridAndEntries
+
+-- the same as HD
+abbrev pub paperStartPlain : List ℕ
+paperStartPlain = (0x48 ∷ 0x44 ∷ 1 ∷ 0 ∷ 2 ∷ 3 ∷ 1 ∷ 0 ∷ 6 ∷ []) ++ oneLink ++ greenThenRed ++ gridAndEntries

@@ -1,4 +1,4 @@
--- Bench cases P1 to P11 as rows of one table: what is asked, and what is due.
+-- Bench cases P1 to P11 as rows of one table, with rows for H2: what is asked, and what is due.
 use Prim.Native.Nat.{ℕ, _*_}
 use mathlib.Core.List.{List, [], _∷_, List·Memᴰ}
 use mathlib.Core.Path.{_≡_}
@@ -17,7 +17,7 @@ use Rattle.judging.specs.Overflow.{overflowsOf}
 use Rattle.controller.specs.declared.Shown.{Shown}
 use Rattle.controller.specs.State.{holding}
 use Rattle.controller.specs.Query.{entryAsked, queryOf}
-use Rattle.bench_cases.specs.Papers.{paperOne, paperTwo, paperThree, paperFour, paperFive, twoLinks, redLink, twoIn, fork}
+use Rattle.bench_cases.specs.Papers.{paperOne, paperTwo, paperThree, paperFour, paperFive, twoLinks, redLink, twoIn, fork, twoLinksStart, paperStart, paperStartPlain}
 
 -- what a row asks of a certificate
 pub data Question : Type 0 where
@@ -27,10 +27,10 @@ pub data Question : Type 0 where
   overflows : List ℕ → Question
   -- its tests before 12
   screening : List ℕ → Question
-  -- the next queue of a link under signal 0: the scale, the queues and the arrivals over it, the link
-  nextQueue : List ℕ → ℕ → List ℕ → List ℕ → ℕ → Question
-  -- a link's image under signal 0 and arrival box 0: the cell, the link
-  image : List ℕ → ℕ → ℕ → Question
+  -- the next queue of a link under signal 0: the signal shown before, the scale, the queues and the arrivals over it, the link
+  nextQueue : List ℕ → ℕ → ℕ → List ℕ → List ℕ → ℕ → Question
+  -- a link's image under signal 0 and arrival box 0: the signal shown before, the cell, the link
+  image : List ℕ → ℕ → ℕ → ℕ → Question
   -- a query of the state that holds it, in mode 0: the scale, the queues
   query : List ℕ → ℕ → List ℕ → Question
 
@@ -55,9 +55,10 @@ unfoldable pub answer : Question → Answer
 answer (verdict s) = report (verdictOf s)
 answer (overflows s) = entries (overflowsOf s)
 answer (screening s) = report (screeningOf s)
-answer (nextQueue s scale queues arrivals l) =
-    queue (next (networkOf s) (limitOf s 0) scale (λ k. getD queues k 0) (λ k. getD arrivals k 0) l)
-answer (image s c l) = ends (imageLow s (limitOf s 0) 0 c l) (imageHigh s (limitOf s 0) 0 c l) (imageOver s (limitOf s 0) 0 c l)
+answer (nextQueue s before scale queues arrivals l) =
+    queue (next (networkOf s) (limitOf s before 0) scale (λ k. getD queues k 0) (λ k. getD arrivals k 0) l)
+answer (image s before c l) =
+    ends (imageLow s (limitOf s before 0) 0 c l) (imageHigh s (limitOf s before 0) 0 c l) (imageOver s (limitOf s before 0) 0 c l)
 -- L has one signal for all cells, so the row also asks which entry the query goes by, and takes its cell
 answer (query s scale queues) =
     shownOrRefusal (queryOf (holding s) queues scale) (cellOf s (entryAsked (holding s) queues scale))
@@ -83,12 +84,12 @@ rows =
     -- P5 12, entry 2, count 2
     ∷ row (verdict paperFive) (report (result 12 2 0 2))
     -- P6 next 3.2 and 22.244
-    ∷ row (nextQueue (twoLinks 33 34) 1 (10 ∷ 20 ∷ []) (0 ∷ 0 ∷ []) 0) (queue 32000)
-    ∷ row (nextQueue (twoLinks 33 34) 1 (10 ∷ 20 ∷ []) (0 ∷ 0 ∷ []) 1) (queue 222440)
+    ∷ row (nextQueue (twoLinks 33 34) 0 1 (10 ∷ 20 ∷ []) (0 ∷ 0 ∷ []) 0) (queue 32000)
+    ∷ row (nextQueue (twoLinks 33 34) 0 1 (10 ∷ 20 ∷ []) (0 ∷ 0 ∷ []) 1) (queue 222440)
     -- P7 next 10, from 9.5 and 2 as 19 and 4 over scale 2
-    ∷ row (nextQueue redLink 2 (19 ∷ []) (4 ∷ []) 0) (queue (20000 * 10))
+    ∷ row (nextQueue redLink 0 2 (19 ∷ []) (4 ∷ []) 0) (queue (20000 * 10))
     -- its image is 2 to 10; 10 and 2 exceed cap where they are not cut, so its one entry may turn arrivals away
-    ∷ row (image redLink 0 0) (ends 20000 100000 true)
+    ∷ row (image redLink 0 0 0) (ends 20000 100000 true)
     ∷ row (overflows redLink) (entries 1)
     -- P8 pull 34 holds, 33 gives 11
     ∷ row (screening (twoLinks 33 34)) (report fine)
@@ -102,7 +103,19 @@ rows =
     ∷ row (query paperOne 2 (20 ∷ [])) (shows 0 0x01 2)
     ∷ row (query paperOne 2 (21 ∷ [])) (report (refusal 16 0))
     -- P11 link 1's image is 20 to 24.23, below its cap of 40
-    ∷ row (image fork 9 1) (ends 200000 242300 false)
+    ∷ row (image fork 0 9 1) (ends 200000 242300 false)
+    -- P6 as H2 with start 4: after the red signal 1 next 6 and 21.32, after the green one as above
+    ∷ row (nextQueue twoLinksStart 1 1 (10 ∷ 20 ∷ []) (0 ∷ 0 ∷ []) 0) (queue 60000)
+    ∷ row (nextQueue twoLinksStart 1 1 (10 ∷ 20 ∷ []) (0 ∷ 0 ∷ []) 1) (queue 213200)
+    ∷ row (nextQueue twoLinksStart 0 1 (10 ∷ 20 ∷ []) (0 ∷ 0 ∷ []) 0) (queue 32000)
+    ∷ row (nextQueue twoLinksStart 0 1 (10 ∷ 20 ∷ []) (0 ∷ 0 ∷ []) 1) (queue 222440)
+    ∷ row (verdict twoLinksStart) (report (result 0 0 0 1))
+    -- the image of cell 2 is 6 to 10 after the red signal, 2 to 6 after the green one; so start is accepted, and the same as HD is 14
+    ∷ row (image paperStart 1 2 0) (ends 60000 100000 false)
+    ∷ row (image paperStart 0 2 0) (ends 20000 60000 false)
+    ∷ row (verdict paperStart) (report (result 0 0 0 9))
+    ∷ row (overflows paperStart) (entries 0)
+    ∷ row (verdict paperStartPlain) (report (result 14 4 0 6))
     ∷ []
 
 -- the theorem about all rows: every row's question is answered as due (proved in proofs/Rows.antt)

@@ -11,16 +11,16 @@ use lib.Dec.{leb}
 use Rattle.certificate.specs.declared.Report.{Report}
 use Rattle.certificate.specs.Checks.{refusal, fine, need, orElse, firstBad}
 use Rattle.certificate.specs.Layout.{gridSize, fromOf, toOf, gridAt, intervalsOf, entryAt, cellOf, modeOf, endSize, endAt}
-use Rattle.certificate.specs.Records.{headerFault, linkFault, turnAscends, turnFault, signalFault, cutFault, countOk, gridFault, rangeFault, arrivalFault, entryAscends, namesExist, entryFault, endFault}
+use Rattle.certificate.specs.Records.{headerMarked, headerFault, linkFault, turnAscends, turnFault, signalFault, modeFault, cutFault, countOk, gridFault, rangeFault, arrivalFault, entryAscends, namesExist, passesOn, entryFault, endFault}
 use Rattle.certificate.specs.Facts.{Mark, GridFacts, EntryFacts}
-use Rattle.certificate.specs.Due.{Kind, HD, LK, TN, SG, GR, AR, EN, ZZ, fieldNumber, recordAt, Marked, CountFacts, Whole, Line, TooShort, WrongMark}
+use Rattle.certificate.specs.Due.{Kind, HD, LK, TN, SG, MD, GR, AR, EN, ZZ, fieldNumber, recordAt, Marked, CountFacts, Whole, Line, TooShort, WrongMark}
 use Rattle.certificate.proofs.Tests.{need-pass, or-next, or-stop, or-both, both-or, passes, all-fine, fine-all, first-bad}
 use Rattle.certificate.proofs.Says.{tests-say}
 use Rattle.certificate.proofs.Ascending.{ascends-says}
-use Rattle.certificate.proofs.Records.{header-says, link-says, turn-says, signal-says, grid-says, box-says, entry-says, end-says}
+use Rattle.certificate.proofs.Records.{header-marked-says, header-says, link-says, turn-says, signal-says, mode-says, grid-says, box-says, passes-says, entry-says, end-says}
 use Rattle.certificate.proofs.KindOrder.{placed}
-use Rattle.certificate.proofs.FieldTests.{Test, fields, order, kindOf, testNumber, Asks, Broken, none-earlier, names-earlier}
-use Rattle.certificate.proofs.Opening.{Opening, absent, wrong, short, opens, fails, opening}
+use Rattle.certificate.proofs.FieldTests.{Test, fields, order, memory, kindOf, testNumber, Asks, Broken, none-earlier, names-earlier, order-earlier}
+use Rattle.certificate.proofs.Opening.{Opening, absent, wrong, short, opens, fails, opening, marked-opening}
 
 -- the tests of record i of a kind
 abbrev pub faultOf : List ℕ → Kind → ℕ → Report
@@ -28,6 +28,7 @@ faultOf s HD i = headerFault s
 faultOf s LK i = linkFault s i
 faultOf s TN i = turnFault s i
 faultOf s SG i = signalFault s i
+faultOf s MD i = modeFault s i
 faultOf s GR i = gridFault s i
 faultOf s AR i = arrivalFault s i
 faultOf s EN i = entryFault s i
@@ -39,6 +40,7 @@ linePlace s HD i = 0
 linePlace s LK i = recordAt s LK i
 linePlace s TN i = recordAt s TN i
 linePlace s SG i = recordAt s SG i
+linePlace s MD i = recordAt s MD i
 linePlace s GR i = recordAt s GR i
 linePlace s AR i = recordAt s AR i
 linePlace s EN i = recordAt s EN i
@@ -74,6 +76,7 @@ record-says s TN i =
     let above = ascends-says (fromOf s) (toOf s) (turnAscends s) refl (λ t. refl) i in
     ((λ z. let h = turn-says s i .0 z in (h .0, (h .1, above .0 (h .2), h .3))), (λ p. turn-says s i .1 (p .0, p .1 .0, above .1 (p .1 .1), p .1 .2)))
 record-says s SG i = signal-says s i
+record-says s MD i = mode-says s i
 record-says s GR i = (
   (λ z. let h = grid-says s i .0 z in ((omega (arith, h .0, h .1 .count-least), (λ _. h .0)), h .1)),
   (λ p. grid-says s i .1 (p .0 .1 (counted (p .1)), p .1)),
@@ -81,7 +84,7 @@ record-says s GR i = (
 record-says s AR i = box-says s i
 record-says s EN i =
     let above = ascends-says (cellOf s) (modeOf s) (entryAscends s) refl (λ e. refl) i in
-    ((λ z. let h = entry-says s i .0 z in (h .0, (h .1, above .0 (h .2)))), (λ p. entry-says s i .1 (p .0, p .1 .0, above .1 (p .1 .1))))
+    ((λ z. let h = entry-says s i .0 z in (h .0, (h .1, above .0 (h .2), h .3))), (λ p. entry-says s i .1 (p .0, p .1 .0, above .1 (p .1 .1), p .1 .2)))
 record-says s ZZ i = ((λ z. let h = end-says s .0 z in (omega (arith, h .0), (h .1, h .0))), (λ p. end-says s .1 (p .1 .1, p .1 .0)))
 
 -- a test that gives `fine` or r, and a loop of such tests
@@ -143,7 +146,7 @@ by-need P false p q = p refl
 grid-answer : (s : List ℕ) (l : ℕ) → Answer s GR l (gridFault s l)
 unfolding gridFault cutFault
 grid-answer s l =
-    after-opening s GR l (opening s _ _ _ _) (λ whole. whole .0) λ z mark three.
+    after-opening s GR l (marked-opening s _ _ _ _) (λ whole. whole .0) λ z mark three.
     by-need (Answer s GR l) _
     (λ bad. inr (breaks (fields GR) refl (mark, (three, λ count. absurd (bad-count bad count)), none-earlier s l GR, λ line. bad-count bad (counted line)) refl)) λ count.
     by-need (Answer s GR l) _
@@ -162,7 +165,7 @@ grid-answer s l =
     not-seven : _≡_ {A = ℕ} 7 0 → ⊥
     not-seven e = omega arith
 
--- EN: the names are tested before the order
+-- EN: the names are tested before the order, and the order before what the entry passes on
 names-say : (s : List ℕ) (e : ℕ) → Mark s (entryAt s e) 69 78 → (namesExist s e ≡ true) ↔ EntryFacts s e
 unfolding namesExist
 names-say s e mark = simp tests-say (omega arith)
@@ -170,22 +173,25 @@ names-say s e mark = simp tests-say (omega arith)
 entry-answer : (s : List ℕ) (e : ℕ) → Answer s EN e (entryFault s e)
 unfolding entryFault entryAscends
 entry-answer s e =
-    after-opening s EN e (opening s _ _ _ _) (λ whole. whole) λ z mark whole.
+    after-opening s EN e (marked-opening s _ _ _ _) (λ whole. whole) λ z mark whole.
     by-need (Answer s EN e) _
     (λ bad. inr (breaks (fields EN) refl (mark, whole, none-earlier s e EN, fails (names-say s e mark .1) bad) refl)) λ exist.
     let names = names-say s e mark .0 exist in
     let above = ascends-says (cellOf s) (modeOf s) (entryAscends s) refl (λ e. refl) e in
     by-need (Answer s EN e) _
     (λ bad. inr (breaks order refl (mark, whole, names-earlier s e names, fails (above .1) bad) refl)) λ ascends.
-    inl ((whole, (names, above .0 ascends)), refl)
+    by-need (Answer s EN e) _
+    (λ bad. inr (breaks memory refl (mark, whole, order-earlier s e names (above .0 ascends), fails (passes-says s e .1) bad) refl)) λ on.
+    inl ((whole, (names, above .0 ascends, passes-says s e .0 on)), refl)
 
 pub answer : (s : List ℕ) (k : Kind) (i : ℕ) → Answer s k i (faultOf s k i)
-unfolding headerFault linkFault turnFault signalFault arrivalFault rangeFault endFault
-answer s HD i = record-answer s HD i (opening s _ _ _ _) Iff·rfl (record-says s HD i) (λ line. line) (need-ends _ _)
-answer s LK i = record-answer s LK i (opening s _ _ _ _) Iff·rfl (record-says s LK i) (λ line. line) (need-ends _ _)
-answer s TN i = record-answer s TN i (opening s _ _ _ _) Iff·rfl (record-says s TN i) (λ line. line) (need-ends _ _)
-answer s SG i = record-answer s SG i (opening s _ _ _ _) Iff·rfl (record-says s SG i) (λ line. line) (need-ends _ _)
+unfolding headerFault linkFault turnFault signalFault modeFault arrivalFault rangeFault endFault
+answer s HD i = record-answer s HD i (opening s _ _ (headerMarked s) (header-marked-says s)) Iff·rfl (record-says s HD i) (λ line. line) (need-ends _ _)
+answer s LK i = record-answer s LK i (marked-opening s _ _ _ _) Iff·rfl (record-says s LK i) (λ line. line) (need-ends _ _)
+answer s TN i = record-answer s TN i (marked-opening s _ _ _ _) Iff·rfl (record-says s TN i) (λ line. line) (need-ends _ _)
+answer s SG i = record-answer s SG i (marked-opening s _ _ _ _) Iff·rfl (record-says s SG i) (λ line. line) (need-ends _ _)
+answer s MD i = record-answer s MD i (marked-opening s _ _ _ _) Iff·rfl (record-says s MD i) (λ line. line) (need-ends _ _)
 answer s GR i = grid-answer s i
-answer s AR i = record-answer s AR i (opening s _ _ _ _) Iff·rfl (record-says s AR i) (λ line. line) (loop-ends _ _ _ (λ l. need-ends _ _))
+answer s AR i = record-answer s AR i (marked-opening s _ _ _ _) Iff·rfl (record-says s AR i) (λ line. line) (loop-ends _ _ _ (λ l. need-ends _ _))
 answer s EN i = entry-answer s i
-answer s ZZ i = record-answer s ZZ i (opening s _ _ _ _) Iff·rfl (record-says s ZZ i) (λ line. line) (need-ends _ _)
+answer s ZZ i = record-answer s ZZ i (marked-opening s _ _ _ _) Iff·rfl (record-says s ZZ i) (λ line. line) (need-ends _ _)

@@ -1,33 +1,35 @@
--- The tests of a record's fields, one refusal each: one of every kind, and of an entry two. Assumes nothing.
+-- The tests of a record's fields, one refusal each: one of every kind, and of an entry three. Assumes nothing.
 use Prim.Native.Nat.{ℕ, zero, suc, _+_, _≤_, _<_}
 use mathlib.Core.List.{List}
-use mathlib.Core.Bool.{Bool, true, false}
-use mathlib.Core.Path.{_≡_, refl, sym, ap}
-use mathlib.Core.Logic.{_↔_}
+use mathlib.Core.Bool.{Bool, true, false, cond, false≢true}
+use mathlib.Core.Path.{_≡_, refl, sym, ap, _∙_}
+use mathlib.Core.Logic.{_↔_, _⊎_, inl, inr, ⊎-elim}
 use native.Mathlib.Omega.{arith}
-use borrow.Author.Tests.{ltb-true, ltb-false}
-use lib.Dec.{ltb}
-use Rattle.certificate.specs.Layout.{signalsOf, modesOf, cellsOf, cellOf, modeOf, signalOf, nextModeOf}
-use Rattle.certificate.specs.Facts.{PairBelow, EntryFacts}
-use Rattle.certificate.specs.Due.{Kind, HD, LK, TN, SG, GR, AR, EN, ZZ, fieldNumber, Marked, Whole, Above, Line, BrokenLine, Missing, MissingName, WrongOrder}
+use borrow.Author.Tests.{ltb-true, ltb-false, le-leb}
+use lib.Dec.{ltb, leb, eqb}
+use Rattle.certificate.specs.Layout.{signalsOf, modesOf, remembers, shownBefore, cellsOf, cellOf, modeOf, signalOf, nextModeOf}
+use Rattle.certificate.specs.Facts.{PairBelow, EntryFacts, PassesOn}
+use Rattle.certificate.specs.Due.{Kind, HD, LK, TN, SG, MD, GR, AR, EN, ZZ, orderOf, fieldNumber, Marked, Whole, Above, Line, BrokenLine, Missing, MissingName, WrongOrder, OtherSignal}
 use Rattle.certificate.specs.Due.Missing.{cell, mode, signal, next-mode}
-use Rattle.certificate.specs.Laws.{ReadingNumber, up-to-nine, of-order}
-use Rattle.certificate.proofs.KindOrder.{placed, same-number}
+use Rattle.certificate.specs.Laws.{ReadingNumber, up-to-nine, of-order, of-memory}
+use Rattle.certificate.proofs.KindOrder.{kindAt, numberOrder, placed, kind-six}
 
--- the fields by themselves, and then the order of entries
+-- the fields by themselves, then the order of entries, then what they pass on
 pub data Test : Type 0 where
   fields : Kind → Test
-  order : Test
+  order memory : Test
 
 -- the kind of record that it tests
 abbrev pub kindOf : Test → Kind
 kindOf (fields k) = k
 kindOf order = EN
+kindOf memory = EN
 
 -- its refusal
 abbrev pub testNumber : Test → ℕ
 testNumber (fields k) = fieldNumber k
 testNumber order = 22
+testNumber memory = 23
 
 -- what it asks
 abbrev pub Asks : List ℕ → Test → ℕ → Type 0
@@ -35,11 +37,13 @@ Asks s (fields HD) i = Line s HD i
 Asks s (fields LK) i = Line s LK i
 Asks s (fields TN) i = Line s TN i
 Asks s (fields SG) i = Line s SG i
+Asks s (fields MD) i = Line s MD i
 Asks s (fields GR) i = Line s GR i
 Asks s (fields AR) i = Line s AR i
 Asks s (fields EN) i = EntryFacts s i
 Asks s (fields ZZ) i = Line s ZZ i
 Asks s order i = Above (cellOf s) (modeOf s) i
+Asks s memory i = PassesOn s i
 
 -- the tests of the same record that come before it: those with a smaller number
 abbrev pub Earlier : List ℕ → Test → ℕ → Type 0
@@ -52,17 +56,43 @@ Broken s t i = Marked s (kindOf t) i × Whole s (kindOf t) i × Earlier s t i ×
 pub test-least : (t : Test) → 2 ≤ testNumber t
 test-least (fields k) = placed k .least
 test-least order = omega arith
+test-least memory = omega arith
 
 pub test-number : (t : Test) → ReadingNumber (testNumber t)
 test-number (fields k) = up-to-nine (placed k .most)
 test-number order = of-order refl
+test-number memory = of-memory refl
 
--- a test is told by its number
-pub same-test : (t u : Test) → testNumber t ≡ testNumber u → t ≡ u
-same-test (fields j) (fields k) e = ap fields (same-number j k e)
-same-test (fields j) order e = absurd (omega (arith, placed j .most))
-same-test order (fields k) e = absurd (omega (arith, placed k .most))
-same-test order order e = refl
+-- a test is told by the kind of its record and its number
+testAt : Kind → ℕ → Test
+testAt k n = cond (leb n 9) (fields k) (cond (eqb n 22) order memory)
+
+test-at : (t : Test) → testAt (kindOf t) (testNumber t) ≡ t
+unfolding testAt
+test-at (fields k) = rw (le-leb _ _ (placed k .most))
+test-at order = refl
+test-at memory = refl
+
+same-record : (t u : Test) → kindOf t ≡ kindOf u → testNumber t ≡ testNumber u → t ≡ u
+same-record t u same e = sym (test-at t) ∙ rw (same, e) (test-at u)
+
+-- and by its number alone, unless that is 6
+kindBy : ℕ → Kind
+kindBy n = cond (leb n 9) (kindAt (numberOrder n)) EN
+
+kind-by : (t : Test) → (testNumber t ≡ 6 → ⊥) → kindBy (testNumber t) ≡ kindOf t
+unfolding kindBy
+kind-by (fields k) other = rw (le-leb _ _ (placed k .most), placed k .by-number other) (placed k .at)
+kind-by order other = refl
+kind-by memory other = refl
+
+pub same-test : (t u : Test) → testNumber t ≡ testNumber u → (testNumber u ≡ 6 → ⊥) → t ≡ u
+same-test t u e other = same-record t u (sym (kind-by t (λ six. other (sym e ∙ six))) ∙ ap kindBy e ∙ kind-by u other) e
+
+pub number-six : (t : Test) → testNumber t ≡ 6 → (t ≡ fields SG) ⊎ (t ≡ fields MD)
+number-six (fields k) e = ⊎-elim (λ same. inl (ap fields same)) (λ same. inr (ap fields same)) (kind-six k e)
+number-six order e = absurd (omega arith)
+number-six memory e = absurd (omega arith)
 
 -- a number whose pair is not above that of the one before it has one before it
 not-above : (f g : ℕ → ℕ) (i : ℕ) → (Above f g i → ⊥) → (h : ℕ) × (h + 1 ≡ i) × (PairBelow (f h) (g h) (f i) (g i) → ⊥)
@@ -76,11 +106,13 @@ module _ (s : List ℕ) (i : ℕ) where
   line-asks (fields LK) line = line
   line-asks (fields TN) line = line
   line-asks (fields SG) line = line
+  line-asks (fields MD) line = line
   line-asks (fields GR) line = line
   line-asks (fields AR) line = line
   line-asks (fields EN) line = line .0
   line-asks (fields ZZ) line = line
   line-asks order line = line .1
+  line-asks memory line = line .2
 
   -- only one test of a record is the first that fails
   pub one-broken : (t u : Test) → kindOf t ≡ kindOf u → Broken s t i → Broken s u i → t ≡ u
@@ -89,16 +121,23 @@ module _ (s : List ℕ) (i : ℕ) where
       go : (b : Bool) → ltb (testNumber t) (testNumber u) ≡ b → (c : Bool) → ltb (testNumber u) (testNumber t) ≡ c → t ≡ u
       go true p c q = absurd (f .3 (g .2 t same (ltb-true _ _ p)))
       go false p true q = absurd (g .3 (f .2 u (sym same) (ltb-true _ _ q)))
-      go false p false q = same-test t u (omega (arith, ltb-false (testNumber t) (testNumber u) p, ltb-false (testNumber u) (testNumber t) q))
+      go false p false q = same-record t u same (omega (arith, ltb-false (testNumber t) (testNumber u) p, ltb-false (testNumber u) (testNumber t) q))
 
-  -- nothing is tested before the fields, and of an entry the names before the order
+  -- nothing is tested before the fields, and of an entry the names before the order, and both before what it passes on
   pub none-earlier : (k : Kind) → Earlier s (fields k) i
   none-earlier k (fields j) same less = absurd (omega (arith, ap fieldNumber same))
   none-earlier k order same less = absurd (omega (arith, placed k .most))
+  none-earlier k memory same less = absurd (omega (arith, placed k .most))
 
   pub names-earlier : EntryFacts s i → Earlier s order i
   names-earlier facts (fields j) same less = rw same facts
   names-earlier facts order same less = absurd (omega arith)
+  names-earlier facts memory same less = absurd (omega arith)
+
+  pub order-earlier : EntryFacts s i → Above (cellOf s) (modeOf s) i → Earlier s memory i
+  order-earlier facts above (fields j) same less = rw same facts
+  order-earlier facts above order same less = above
+  order-earlier facts above memory same less = absurd (omega arith)
 
   -- the first test that fails, in plain terms (specs/Due.antt)
   pub broken-line : (k : Kind) → Asks s (fields k) i ↔ Line s k i → Broken s (fields k) i ↔ BrokenLine s k i
@@ -135,4 +174,15 @@ module _ (s : List ℕ) (i : ℕ) where
   wrong-order = (
     (λ f. (f .1, f .2 (fields EN) refl (omega arith), not-above (cellOf s) (modeOf s) i (f .3))),
     (λ f. (f .1 .mark, f .0, names-earlier (f .1), λ above. f .2 .2 (above (f .2 .0) (f .2 .1)))),
+  )
+
+  -- only a certificate that remembers fails to pass on
+  must-remember : (b : Bool) → ((b ≡ true → shownBefore s (nextModeOf s i) ≡ signalOf s i) → ⊥) → b ≡ true
+  must-remember true bad = refl
+  must-remember false bad = absurd (bad (λ e. absurd (false≢true e)))
+
+  pub other-signal : Broken s memory i ↔ OtherSignal s i
+  other-signal = (
+    (λ f. (f .1, f .2 (fields EN) refl (omega arith), f .2 order refl (omega arith), must-remember (remembers s) (f .3), λ e. f .3 (λ _. e))),
+    (λ f. (f .1 .mark, f .0, order-earlier (f .1) (f .2), λ on. f .4 (on (f .3)))),
   )

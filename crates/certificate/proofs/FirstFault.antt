@@ -7,7 +7,7 @@ use native.Mathlib.Omega.{arith}
 use Rattle.certificate.specs.declared.Report.{Report}
 use Rattle.certificate.specs.Checks.{refusal, fine, orElse, firstOf, firstFrom, firstBad}
 use Rattle.certificate.specs.Records.{headerFault, endFault}
-use Rattle.certificate.specs.Reading.{linksFault, turnsFault, signalsFault, gridsFault, arrivalsFault, entriesFault, readingOf}
+use Rattle.certificate.specs.Reading.{linksFault, turnsFault, signalsFault, modesFault, gridsFault, arrivalsFault, entriesFault, readingOf}
 use Rattle.certificate.specs.Facts.{PairBelow}
 use Rattle.certificate.specs.Due.{Kind, HD, ZZ, orderOf, manyOf, Due}
 use Rattle.certificate.proofs.Tests.{or-next, or-stop, passes, all-fine, fine-all, first-stop, FirstBad, first-bad}
@@ -54,8 +54,8 @@ alone : (f : Report) → (f .number ≡ 0 → f ≡ fine) → orElse f fine ≡ 
 alone f h = ⊎-elim (λ z. or-next f fine z ∙ sym (h z)) (or-stop f fine) (passes f)
 
 -- reading is a loop over the kinds
-reading-loop : (s : List ℕ) → firstBad 8 (placeFault s) ≡ readingOf s
-unfolding readingOf linksFault turnsFault signalsFault gridsFault arrivalsFault entriesFault firstFrom firstOf placeFault kindAt
+reading-loop : (s : List ℕ) → firstBad 9 (placeFault s) ≡ readingOf s
+unfolding readingOf linksFault turnsFault signalsFault modesFault gridsFault arrivalsFault entriesFault firstFrom firstOf placeFault kindAt
 reading-loop s = rw (alone (headerFault s) (clean s HD 0), alone (endFault s) (clean s ZZ 0), alone (endFault s) (clean s ZZ 0))
 
 -- the record that is due, with its refusal
@@ -84,9 +84,9 @@ module _ (s : List ℕ) (k : Kind) (earlier : (j : Kind) → orderOf j < orderOf
 -- a refusal of reading is that of a record that is due
 pub first-fault : (s : List ℕ) → (readingOf s .number ≡ 0 → ⊥) → FirstFault s (readingOf s)
 unfolding placeFault
-first-fault s bad = go (first-bad 8 (placeFault s) (rw (reading-loop s) bad))
+first-fault s bad = go (first-bad 9 (placeFault s) (rw (reading-loop s) bad))
   where
-    go : FirstBad 8 (placeFault s) (firstBad 8 (placeFault s)) → FirstFault s (readingOf s)
+    go : FirstBad 9 (placeFault s) (firstBad 9 (placeFault s)) → FirstFault s (readingOf s)
     go p =
         let k : Kind = kindAt (p .at) in
         let here : kindFault s k ≡ readingOf s = p .answer ∙ reading-loop s in
@@ -116,9 +116,9 @@ fault-first s r f = sym (reading-loop s) ∙ among-kinds ∙ among-records ∙ h
         let place : orderOf (kindAt n) ≡ n = order-at n (omega (arith, placed (f .kind) .below)) in
         rw (fine-all (manyOf s (kindAt n)) (faultOf s (kindAt n)) (λ h lt. record-says s (kindAt n) h .1 (f .due .before (kindAt n) h lt (inl (omega arith)))))
 
-    among-kinds : firstBad 8 (placeFault s) ≡ kindFault s (f .kind)
+    among-kinds : firstBad 9 (placeFault s) ≡ kindFault s (f .kind)
     among-kinds =
-        rw (placed (f .kind) .at) at (first-stop 8 (placeFault s) (orderOf (f .kind)) (placed (f .kind) .below) passed (rw (placed (f .kind) .at, among-records) bad))
+        rw (placed (f .kind) .at) at (first-stop 9 (placeFault s) (orderOf (f .kind)) (placed (f .kind) .below) passed (rw (placed (f .kind) .at, among-records) bad))
 
 pub reading-law : (s : List ℕ) (r : Report) → (r .number ≡ 0 → ⊥) → (readingOf s ≡ r) ↔ FirstFault s r
 reading-law s r bad = ((λ e. rw e at (first-fault s (rw e bad))), fault-first s r)

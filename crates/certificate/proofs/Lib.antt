@@ -5,6 +5,8 @@ pub mod Says
 pub mod Ascending
 pub mod Shares
 pub mod Records
+pub mod KindSizes
+pub mod KindLaws
 pub mod Offsets
 pub mod Plain
 pub mod Size

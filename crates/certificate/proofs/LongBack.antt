@@ -5,15 +5,15 @@ use mathlib.Core.Bool.{true}
 use mathlib.Core.Path.{_≡_, refl, sym, ap, _∙_}
 use native.Mathlib.Nat.{mul-le-mul-right}
 use native.Mathlib.Omega.{arith}
-use borrow.Author.Tests.{leb-true, lt-leb}
+use borrow.Author.Tests.{leb-true, ltb-true, lt-leb}
 use lib.ListN.{length}
 use Rattle.certificate.specs.Octets.{byteAt}
 use Rattle.certificate.specs.Checks.{refusal}
-use Rattle.certificate.specs.Layout.{maxLinks, maxBoxes, maxEntries, maxIntervals, gridSize, arrivalSize, entrySize, endSize, linksOf, boxesOf, entriesOf, capOf, gridStart, gridAt, intervalsOf, cutOf, productOf, cellsOf, arrivalsStart, arrivalAt, lowOf, highOf, entriesStart, entryAt, cellOf, modeOf, signalOf, nextModeOf, endAt}
-use Rattle.certificate.specs.Records.{cutBefore, cutOk, cutFault, countOk, gridFault, rangeOk, rangeFault, arrivalFault, namesExist, entryAscends, entryFault, endFault}
+use Rattle.certificate.specs.Layout.{maxLinks, maxBoxes, maxEntries, maxIntervals, gridSize, arrivalSize, entrySize, endSize, linksOf, modesOf, boxesOf, entriesOf, capOf, gridStart, gridAt, intervalsOf, cutOf, productOf, cellsOf, arrivalsStart, arrivalAt, lowOf, highOf, entriesStart, entryAt, cellOf, modeOf, signalOf, nextModeOf, endAt}
+use Rattle.certificate.specs.Records.{cutBefore, cutOk, cutFault, countOk, gridFault, rangeOk, rangeFault, arrivalFault, namesExist, entryAscends, passesOn, entryFault, endFault}
 use Rattle.certificate.proofs.Tests.{also-both, need-both, or-both}
 use Rattle.certificate.proofs.Agreement.{or-same, need-same, loop-same, Agree, byte-same, u16-same, present, marked-opened}
-use Rattle.certificate.proofs.LongFront.{Counts, links-same, signals-same, modes-same, boxes-same, entries-same, gridsMost, grid-start, grid-most}
+use Rattle.certificate.proofs.LongFront.{Counts, links-same, signals-same, modes-same, boxes-same, entries-same, gridsMost, remembers-same, link-u16, shown-same, grid-start, grid-most}
 
 -- a grid record that passes has at most 15 intervals
 intervals-most : (s : List ℕ) (l : ℕ) → countOk s l ≡ true → intervalsOf s l ≤ maxIntervals
@@ -66,7 +66,7 @@ module _ {s t : List ℕ} (A : Agree s t) (C : Counts s) where
     cut-same : l < linksOf s → (i : ℕ) → i < maxIntervals → cutFault s l i ≡ cutFault t l i
     unfolding cutFault cutOk
     cut-same lt i h =
-        let cap : capOf s l ≡ capOf t l = u16-same A refl (omega (arith, C .links)) in
+        let cap : capOf s l ≡ capOf t l = link-u16 A C 4 (omega arith) l lt in
         need-same (cc (cut-of i h, cut-before i h)) (ap (refusal 7) (grid-place l (omega arith))) (λ _. refl)
 
     pub grid-same : l < linksOf s → gridFault s l ≡ gridFault t l
@@ -142,6 +142,13 @@ module _ {s t : List ℕ} (A : Agree s t) (C : Counts s) where
     entry-ascends zero h = refl
     entry-ascends (suc e) h = cc (cell-same e (omega arith), mode-same e (omega arith), cell-same (suc e) h, mode-same (suc e) h)
 
+    -- the memory of the next mode is read only where the names exist
+    passes : (e : ℕ) → signalOf s e ≡ signalOf t e → nextModeOf s e ≡ nextModeOf t e → namesExist s e ≡ true → passesOn s e ≡ passesOn t e
+    unfolding passesOn namesExist
+    passes e signal next names =
+        let exists : nextModeOf s e < modesOf s = ltb-true _ _ (also-both _ _ names .1) in
+        rw (shown-same A C (nextModeOf s e) exists, remembers-same A, signal, next)
+
     pub entry-same : (e : ℕ) → e < entriesOf s → entryFault s e ≡ entryFault t e
     unfolding entryFault namesExist
     entry-same e h =
@@ -153,7 +160,8 @@ module _ {s t : List ℕ} (A : Agree s t) (C : Counts s) where
         let place : entryAt s e ≡ entryAt t e = omega (arith, entries-start) in
         or-same (marked-opened A _ _ place refl (omega arith) (omega (arith, entries-most, C .entries)))
         (λ _. need-same (cc) (ap (refusal _) place)
-        (λ _. need-same (cc) (ap (refusal _) place) (λ _. refl)))
+        (λ exist. need-same (cc) (ap (refusal _) place)
+        (λ _. need-same (passes e signal next exist) (ap (refusal _) place) (λ _. refl))))
 
     -- both strings go on after ZZ, so both are refused there
     pub end-same : endFault s ≡ endFault t

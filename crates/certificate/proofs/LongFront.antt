@@ -1,23 +1,26 @@
--- The records HD, LK, TN and SG are tested alike in two byte strings that agree up to the greatest length. Assumes nothing.
+-- The records HD, LK, TN, SG and MD are tested alike in two byte strings that agree up to the greatest length. Assumes nothing.
 use Prim.Native.Nat.{ℕ, zero, suc, _+_, _*_, _≤_, _<_}
 use mathlib.Core.List.{List}
 use mathlib.Core.Bool.{Bool, true}
-use mathlib.Core.Path.{_≡_, refl}
+use mathlib.Core.Path.{_≡_, refl, ap, _∙_}
 use native.Mathlib.Omega.{arith}
 use borrow.Author.Tests.{leb-true, ltb-true}
 use lib.Dec.{ltb, eqb}
-use Rattle.certificate.specs.Octets.{byteAt, _also_}
-use Rattle.certificate.specs.Layout.{maxLinks, maxTurns, maxSignals, maxBoxes, maxEntries, headerSize, linkSize, turnSize, signalSize, linksOf, turnsOf, signalsOf, modesOf, boxesOf, entriesOf, tailOf, headOf, capOf, flowOf, safeOf, goalOf, turnsStart, turnAt, fromOf, toOf, shareOf, pullOf, signalsStart, greenByteOf, gridStart}
-use Rattle.certificate.specs.Records.{headerOk, headerFault, linkOk, linkFault, turnAscends, shareTotal, turnOk, turnFault, signalOk, signalFault}
+use Rattle.certificate.specs.Octets.{byteAt, u16At, _also_}
+use Rattle.certificate.specs.Checks.{refusal}
+use Rattle.certificate.specs.Layout.{maxLinks, maxTurns, maxSignals, maxModes, maxBoxes, maxEntries, headerSize, maxLinkSize, turnSize, signalSize, modeSize, linksOf, turnsOf, signalsOf, modesOf, boxesOf, entriesOf, remembers, linkSize, linkAt, tailOf, headOf, capOf, flowOf, safeOf, goalOf, startFlowOf, turnsStart, turnAt, fromOf, toOf, shareOf, pullOf, signalsStart, greenByteOf, modeRecordsOf, modesStart, modeAt, shownBefore, gridStart}
+use Rattle.certificate.specs.Records.{headerOk, headerMarked, headerFault, linkOk, linkFault, turnAscends, shareTotal, turnOk, turnFault, signalOk, signalFault, modeOk, modeFault}
 use Rattle.certificate.proofs.Tests.{also-both, need-both, or-both}
 use Rattle.certificate.proofs.Loops.{sum-same}
-use Rattle.certificate.proofs.Agreement.{also-same, Agree, byte-same, u16-same, record-same}
+use Rattle.certificate.proofs.Agreement.{also-same, or-same, need-same, Agree, byte-same, u16-same, marked-same, opened-same, marked-opened, record-same}
+use Rattle.certificate.proofs.KindSizes.{link-least, records-most, links-most, link-step}
 
 -- what a header that passes says of where the other records stand
 pub record Counts (s : List ℕ) : Type 0 where
   pub links : linksOf s ≤ maxLinks
   pub turns : turnsOf s ≤ maxTurns
   pub signals : signalsOf s ≤ maxSignals
+  pub modes : modesOf s ≤ maxModes
   pub boxes : boxesOf s ≤ maxBoxes
   pub entries : entriesOf s ≤ maxEntries
 
@@ -33,19 +36,23 @@ counts s z =
       links = leb-true _ _ (also-both _ _ (d .0) .1);
       turns = leb-true _ _ (d .1);
       signals = leb-true _ _ (c .1);
+      modes = leb-true _ _ (also-both _ _ (also-both _ _ (b .0) .0) .1);
       boxes = leb-true _ _ (b .1);
       entries = leb-true _ _ (a .1);
     }
 
--- the greatest offsets at which TN, SG and GR may start
+-- the greatest offsets at which TN, SG, MD and GR may start
 abbrev turnsMost : ℕ
-turnsMost = headerSize + maxLinks * linkSize
+turnsMost = headerSize + maxLinks * maxLinkSize
 
 abbrev signalsMost : ℕ
 signalsMost = turnsMost + maxTurns * turnSize
 
+abbrev modesMost : ℕ
+modesMost = signalsMost + maxSignals * signalSize
+
 abbrev pub gridsMost : ℕ
-gridsMost = signalsMost + maxSignals * signalSize
+gridsMost = modesMost + maxModes * modeSize
 
 -- the links that turn k names exist
 abbrev exist : List ℕ → ℕ → Bool
@@ -71,33 +78,66 @@ module _ {s t : List ℕ} (A : Agree s t) where
   pub entries-same : entriesOf s ≡ entriesOf t
   entries-same = u16-same A refl (omega arith)
 
+  -- the kind
+  pub remembers-same : remembers s ≡ remembers t
+  unfolding remembers
+  remembers-same = let e : byteAt s 1 ≡ byteAt t 1 = byte-same A refl (omega arith) in cc
+
+  size-same : linkSize s ≡ linkSize t
+  unfolding linkSize
+  size-same = rw remembers-same
+
+  pub link-place : (l : ℕ) → linkAt s l ≡ linkAt t l
+  link-place l = rw size-same
+
+  pub records-same : modeRecordsOf s ≡ modeRecordsOf t
+  unfolding modeRecordsOf
+  records-same = rw (remembers-same, modes-same)
+
   pub header-same : headerFault s ≡ headerFault t
-  unfolding headerFault headerOk
+  unfolding headerFault headerOk headerMarked
   header-same =
-      record-same A _ _ _ _ refl (omega arith) (omega arith)
-      (cc (links-same, turns-same, signals-same, modes-same, boxes-same, entries-same))
+      or-same (opened-same A (cc (marked-same A 72 68 {o = 0} refl (omega arith), marked-same A 72 50 {o = 0} refl (omega arith))) refl refl (omega arith) (omega arith))
+      (λ _. need-same (cc (links-same, turns-same, signals-same, modes-same, boxes-same, entries-same)) refl (λ _. refl))
 
   module _ (C : Counts s) where
+    -- the bytes of a link
+    link-most : (l : ℕ) → l < linksOf s → linkAt s l + linkSize s ≤ turnsMost
+    link-most l lt = omega (arith, link-step s l (linksOf s) lt, links-most s (linksOf s) maxLinks (C .links))
+
+    pub link-u16 : (i : ℕ) → i ≤ 12 → (l : ℕ) → l < linksOf s → u16At s (linkAt s l + i) ≡ u16At t (linkAt t l + i)
+    link-u16 i h l lt = u16-same A (ap (λ (o : ℕ). o + i) (link-place l)) (omega (arith, link-most l lt, link-least s))
+
+    link-byte : (i : ℕ) → i ≤ 12 → (l : ℕ) → l < linksOf s → byteAt s (linkAt s l + i) ≡ byteAt t (linkAt t l + i)
+    link-byte i h l lt = byte-same A (ap (λ (o : ℕ). o + i) (link-place l)) (omega (arith, link-most l lt, link-least s))
+
+    start-same : (l : ℕ) → l < linksOf s → startFlowOf s l ≡ startFlowOf t l
+    unfolding startFlowOf
+    start-same l lt =
+        let flow : flowOf s l ≡ flowOf t l = link-u16 6 (omega arith) l lt in
+        let start : u16At s (linkAt s l + 12) ≡ u16At t (linkAt t l + 12) = link-u16 12 (omega arith) l lt in
+        rw (remembers-same, flow, start)
+
     pub link-same : (l : ℕ) → l < linksOf s → linkFault s l ≡ linkFault t l
     unfolding linkFault linkOk
     link-same l lt =
-        let m : linksOf s ≤ maxLinks = C .links in
-        let tail : tailOf s l ≡ tailOf t l = byte-same A refl (omega arith) in
-        let head : headOf s l ≡ headOf t l = byte-same A refl (omega arith) in
-        let cap : capOf s l ≡ capOf t l = u16-same A refl (omega arith) in
-        let flow : flowOf s l ≡ flowOf t l = u16-same A refl (omega arith) in
-        let safe : safeOf s l ≡ safeOf t l = u16-same A refl (omega arith) in
-        let goal : goalOf s l ≡ goalOf t l = u16-same A refl (omega arith) in
-        record-same A _ _ _ _ refl (omega arith) (omega arith) (cc)
+        let tail : tailOf s l ≡ tailOf t l = link-byte 2 (omega arith) l lt in
+        let head : headOf s l ≡ headOf t l = link-byte 3 (omega arith) l lt in
+        let cap : capOf s l ≡ capOf t l = link-u16 4 (omega arith) l lt in
+        let flow : flowOf s l ≡ flowOf t l = link-u16 6 (omega arith) l lt in
+        let safe : safeOf s l ≡ safeOf t l = link-u16 8 (omega arith) l lt in
+        let goal : goalOf s l ≡ goalOf t l = link-u16 10 (omega arith) l lt in
+        or-same (marked-opened A _ _ (link-place l) size-same (omega (arith, link-least s)) (omega (arith, link-most l lt)))
+        (λ _. need-same (cc (start-same l lt)) (ap (refusal 4) (link-place l)) (λ _. refl))
 
     -- where the turns start, and at most where
     turns-start : turnsStart s ≡ turnsStart t
     unfolding turnsStart
-    turns-start = rw links-same
+    turns-start = link-place (linksOf s) ∙ ap (linkAt t) links-same
 
     turns-most : turnsStart s ≤ turnsMost
     unfolding turnsStart
-    turns-most = omega (arith, C .links)
+    turns-most = omega (arith, links-most s (linksOf s) maxLinks (C .links))
 
     -- the bytes of a turn
     turn-byte : (i : ℕ) → i < turnSize → (k : ℕ) → k < turnsOf s → byteAt s (turnAt s k + i) ≡ byteAt t (turnAt t k + i)
@@ -127,8 +167,8 @@ module _ {s t : List ℕ} (A : Agree s t) where
         let both = also-both _ _ e in
         let from : fromOf s k < linksOf s = ltb-true _ _ (both .0) in
         let to : toOf s k < linksOf s = ltb-true _ _ (both .1) in
-        let head : headOf s (fromOf s k) ≡ headOf t (fromOf t k) = byte-same A (omega (arith, from-same k lt)) (omega (arith, C .links)) in
-        let tail : tailOf s (toOf s k) ≡ tailOf t (toOf t k) = byte-same A (omega (arith, to-same k lt)) (omega (arith, C .links)) in
+        let head : headOf s (fromOf s k) ≡ headOf t (fromOf t k) = link-byte 3 (omega arith) (fromOf s k) from ∙ ap (headOf t) (from-same k lt) in
+        let tail : tailOf s (toOf s k) ≡ tailOf t (toOf t k) = link-byte 2 (omega arith) (toOf s k) to ∙ ap (tailOf t) (to-same k lt) in
         cc
 
     pub turn-same : (k : ℕ) → k < turnsOf s → turnFault s k ≡ turnFault t k
@@ -157,11 +197,33 @@ module _ {s t : List ℕ} (A : Agree s t) where
         let green : greenByteOf s g ≡ greenByteOf t g = byte-same A (omega (arith, signals-start)) (omega (arith, signals-most, C .signals)) in
         record-same A _ _ _ _ (omega (arith, signals-start)) (omega arith) (omega (arith, signals-most, C .signals)) (cc links-same)
 
+    -- where the modes start
+    modes-start : modesStart s ≡ modesStart t
+    unfolding modesStart
+    modes-start = omega (arith, signals-start, signals-same)
+
+    modes-most : modesStart s ≤ modesMost
+    unfolding modesStart
+    modes-most = omega (arith, signals-most, C .signals)
+
+    -- the memory of every mode, whether it has a record or not
+    pub shown-same : (m : ℕ) → m < modesOf s → shownBefore s m ≡ shownBefore t m
+    unfolding shownBefore
+    shown-same m lt =
+        let e : byteAt s (modeAt s m + 2) ≡ byteAt t (modeAt t m + 2) = byte-same A (omega (arith, modes-start)) (omega (arith, modes-most, C .modes)) in
+        rw (remembers-same, e)
+
+    pub mode-same : (m : ℕ) → m < modeRecordsOf s → modeFault s m ≡ modeFault t m
+    unfolding modeFault modeOk
+    mode-same m lt =
+        let inside : m < modesOf s = omega (arith, records-most s) in
+        record-same A _ _ _ _ (omega (arith, modes-start)) (omega arith) (omega (arith, modes-most, C .modes)) (cc (shown-same m inside, signals-same))
+
     -- where the grid starts
     pub grid-start : gridStart s ≡ gridStart t
     unfolding gridStart
-    grid-start = omega (arith, signals-start, signals-same)
+    grid-start = omega (arith, modes-start, records-same)
 
     pub grid-most : gridStart s ≤ gridsMost
     unfolding gridStart
-    grid-most = omega (arith, signals-most, C .signals)
+    grid-most = omega (arith, modes-most, records-most s, C .modes)

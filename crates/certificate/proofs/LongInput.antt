@@ -9,22 +9,23 @@ use lib.ListN.{length, take, length-take}
 use lib.Seq.{take-all, getD-take}
 use lib.Dec.{leb}
 use Rattle.certificate.specs.Layout.{maxIntervals, maxLength, linksOf, intervalsOf}
-use Rattle.certificate.specs.Reading.{linksFault, turnsFault, signalsFault, gridsFault, arrivalsFault, entriesFault, readingOf}
+use Rattle.certificate.specs.Reading.{linksFault, turnsFault, signalsFault, modesFault, gridsFault, arrivalsFault, entriesFault, readingOf}
 use Rattle.certificate.specs.Laws.{LongInput}
 use Rattle.certificate.proofs.Tests.{all-fine}
 use Rattle.certificate.proofs.Agreement.{or-same, loop-same, Agree}
-use Rattle.certificate.proofs.LongFront.{counts, links-same, turns-same, signals-same, boxes-same, entries-same, header-same, link-same, turn-same, signal-same}
+use Rattle.certificate.proofs.LongFront.{counts, links-same, turns-same, signals-same, boxes-same, entries-same, records-same, header-same, link-same, turn-same, signal-same, mode-same}
 use Rattle.certificate.proofs.LongBack.{grid-passes, grid-same, arrival-same, entry-same, end-same}
 
 -- strings that agree read alike: each stage does while the stages before it pass
 pub reading-same : {s t : List ℕ} → Agree s t → readingOf s ≡ readingOf t
-unfolding readingOf linksFault turnsFault signalsFault gridsFault arrivalsFault entriesFault
+unfolding readingOf linksFault turnsFault signalsFault modesFault gridsFault arrivalsFault entriesFault
 reading-same {s} {t} A =
     or-same (header-same A) λ h.
     let C = counts s h in
     or-same (loop-same (links-same A) (λ l lt _. link-same A C l lt)) λ _.
     or-same (loop-same (turns-same A) (λ k lt _. turn-same A C k lt)) λ _.
     or-same (loop-same (signals-same A) (λ g lt _. signal-same A C g lt)) λ _.
+    or-same (loop-same (records-same A) (λ m lt _. mode-same A C m lt)) λ _.
     or-same (loop-same (links-same A) (λ l lt before. grid-same A C l (omega arith) (λ j b. grid-passes s j (before j b)) lt)) λ grids.
     let few : (j : ℕ) → j < linksOf s → intervalsOf s j ≤ maxIntervals = λ j b. grid-passes s j (all-fine _ _ grids j b) in
     or-same (loop-same (boxes-same A) (λ b lt _. arrival-same A C few b lt)) λ _.

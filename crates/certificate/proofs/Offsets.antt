@@ -3,8 +3,9 @@ use Prim.Native.Nat.{ℕ, suc, _+_, _*_, _≤_, _<_}
 use mathlib.Core.List.{List}
 use native.Mathlib.Nat.{mul-le-mul-left}
 use native.Mathlib.Omega.{arith}
-use Rattle.certificate.specs.Layout.{headerSize, linkSize, turnSize, signalSize, gridSize, arrivalSize, entrySize, linksOf, turnsOf, signalsOf, boxesOf, entriesOf, linkAt, turnsStart, turnAt, signalsStart, signalAt, gridStart, gridAt, intervalsOf, arrivalsStart, arrivalAt, entriesStart, entryAt, endAt}
+use Rattle.certificate.specs.Layout.{headerSize, linkSize, turnSize, signalSize, modeSize, gridSize, arrivalSize, entrySize, linksOf, turnsOf, signalsOf, boxesOf, entriesOf, linkAt, turnsStart, turnAt, signalsStart, signalAt, modesStart, modeRecordsOf, modeAt, gridStart, gridAt, intervalsOf, arrivalsStart, arrivalAt, entriesStart, entryAt, endAt}
 use Rattle.certificate.proofs.Ascending.{grows}
+use Rattle.certificate.proofs.KindSizes.{link-step}
 
 module _ (s : List ℕ) where
   -- a later grid record starts no earlier
@@ -16,26 +17,31 @@ module _ (s : List ℕ) where
   pub record Starts : Type 0 where
     pub turns : headerSize ≤ turnsStart s
     pub signals : turnsStart s ≤ signalsStart s
-    pub grids : signalsStart s ≤ gridStart s
+    pub modes : signalsStart s ≤ modesStart s
+    pub grids : modesStart s ≤ gridStart s
     pub arrivals : gridStart s ≤ arrivalsStart s
     pub entries : arrivalsStart s ≤ entriesStart s
     pub «end» : entriesStart s ≤ endAt s
 
   pub starts : Starts
-  unfolding turnsStart signalsStart gridStart gridAt arrivalsStart entriesStart endAt
+  unfolding turnsStart signalsStart modesStart gridStart gridAt arrivalsStart entriesStart endAt
   starts = omega (arith, grid-grows 0 (linksOf s) (omega arith))
 
-  pub link-end : (l : ℕ) → l < linksOf s → linkAt l + linkSize ≤ turnsStart s
+  pub link-end : (l : ℕ) → l < linksOf s → linkAt s l + linkSize s ≤ turnsStart s
   unfolding turnsStart
-  link-end l lt = omega arith
+  link-end l lt = omega (arith, link-step s l (linksOf s) lt)
 
   pub turn-end : (t : ℕ) → t < turnsOf s → turnAt s t + turnSize ≤ signalsStart s
   unfolding signalsStart
   turn-end t lt = omega arith
 
-  pub signal-end : (g : ℕ) → g < signalsOf s → signalAt s g + signalSize ≤ gridStart s
-  unfolding gridStart
+  pub signal-end : (g : ℕ) → g < signalsOf s → signalAt s g + signalSize ≤ modesStart s
+  unfolding modesStart
   signal-end g lt = omega arith
+
+  pub mode-end : (m : ℕ) → m < modeRecordsOf s → modeAt s m + modeSize ≤ gridStart s
+  unfolding gridStart
+  mode-end m lt = omega arith
 
   pub grid-end : (l : ℕ) → l < linksOf s → gridAt s l + gridSize (intervalsOf s l) ≤ arrivalsStart s
   unfolding arrivalsStart gridAt

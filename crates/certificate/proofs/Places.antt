@@ -9,13 +9,13 @@ use native.Mathlib.Omega.{arith}
 use lib.ListN.{length}
 use Rattle.certificate.specs.declared.Report.{Report}
 use Rattle.certificate.specs.Checks.{refusal, fine, need, orElse, firstBad, opened}
-use Rattle.certificate.specs.Layout.{headerSize, endSize, linksOf, turnsOf, signalsOf, boxesOf, entriesOf, linkAt, turnsStart, turnAt, signalsStart, signalAt, gridStart, gridAt, arrivalsStart, arrivalAt, entriesStart, entryAt, endAt}
-use Rattle.certificate.specs.Records.{headerFault, linkFault, turnFault, signalFault, cutFault, gridFault, rangeFault, arrivalFault, entryFault, endFault}
-use Rattle.certificate.specs.Reading.{linksFault, turnsFault, signalsFault, gridsFault, arrivalsFault, entriesFault, readingOf}
+use Rattle.certificate.specs.Layout.{headerSize, endSize, linksOf, turnsOf, signalsOf, boxesOf, entriesOf, linkAt, turnsStart, turnAt, signalsStart, signalAt, modeRecordsOf, modesStart, modeAt, gridStart, gridAt, arrivalsStart, arrivalAt, entriesStart, entryAt, endAt}
+use Rattle.certificate.specs.Records.{headerFault, linkFault, turnFault, signalFault, modeFault, cutFault, gridFault, rangeFault, arrivalFault, entryFault, endFault}
+use Rattle.certificate.specs.Reading.{linksFault, turnsFault, signalsFault, modesFault, gridsFault, arrivalsFault, entriesFault, readingOf}
 use Rattle.certificate.specs.Laws.{PlaceFits}
 use Rattle.certificate.proofs.Tests.{or-next, or-stop, passes, all-fine, fine-all, first-bad}
 use Rattle.certificate.proofs.Says.{opened-says}
-use Rattle.certificate.proofs.Records.{header-says, link-says, turn-says, signal-says, grid-says, box-says, entry-says}
+use Rattle.certificate.proofs.Records.{header-says, link-says, turn-says, signal-says, mode-says, grid-says, box-says, entry-says}
 
 -- place A is at most n, and there is no place B
 record Fits (n : ℕ) (r : Report) : Type 0 where
@@ -90,17 +90,22 @@ module _ (s : List ℕ) where
   links-fit : headerSize ≤ length s → Stretch (length s) (linksFault s) (turnsStart s)
   unfolding linksFault linkFault turnsStart
   links-fit h =
-      records-fit _ (linksOf s) (linkFault s) linkAt (omega arith) (λ l z. omega (arith, link-says s l .0 z .0)) (λ l. record-fits (linkAt l) _ _ _ _)
+      records-fit _ (linksOf s) (linkFault s) (linkAt s) (omega arith) (λ l z. rw mul-suc (omega (arith, link-says s l .0 z .0))) (λ l. record-fits (linkAt s l) _ _ _ _)
 
   turns-fit : turnsStart s ≤ length s → Stretch (length s) (turnsFault s) (signalsStart s)
   unfolding turnsFault turnFault signalsStart
   turns-fit h =
       records-fit _ (turnsOf s) (turnFault s) (turnAt s) (omega arith) (λ t z. omega (arith, turn-says s t .0 z .0)) (λ t. record-fits (turnAt s t) _ _ _ _)
 
-  signals-fit : signalsStart s ≤ length s → Stretch (length s) (signalsFault s) (gridStart s)
-  unfolding signalsFault signalFault gridStart
+  signals-fit : signalsStart s ≤ length s → Stretch (length s) (signalsFault s) (modesStart s)
+  unfolding signalsFault signalFault modesStart
   signals-fit h =
       records-fit _ (signalsOf s) (signalFault s) (signalAt s) (omega arith) (λ g z. omega (arith, signal-says s g .0 z .0)) (λ g. record-fits (signalAt s g) _ _ _ _)
+
+  modes-fit : modesStart s ≤ length s → Stretch (length s) (modesFault s) (gridStart s)
+  unfolding modesFault modeFault gridStart
+  modes-fit h =
+      records-fit _ (modeRecordsOf s) (modeFault s) (modeAt s) (omega arith) (λ m z. omega (arith, mode-says s m .0 z .0)) (λ m. record-fits (modeAt s m) _ _ _ _)
 
   grids-fit : gridStart s ≤ length s → Stretch (length s) (gridsFault s) (arrivalsStart s)
   unfolding gridsFault arrivalsStart gridAt
@@ -115,7 +120,7 @@ module _ (s : List ℕ) where
   unfolding entriesFault entryFault endAt
   entries-fit h =
       records-fit _ (entriesOf s) (entryFault s) (entryAt s) (omega arith) (λ e z. omega (arith, entry-says s e .0 z .0))
-      (λ e h. or-fits _ (opened-fits _ _ _ h) (λ _. need-fits _ _ (refusal-fits _ _ _ h) (test-fits _ _ _ _ h)))
+      (λ e h. or-fits _ (opened-fits _ _ _ h) (λ _. need-fits _ _ (refusal-fits _ _ _ h) (need-fits _ _ (refusal-fits _ _ _ h) (test-fits _ _ _ _ h))))
 
   end-fits : endAt s ≤ length s → Fits (length s) (endFault s)
   unfolding endFault
@@ -128,9 +133,10 @@ module _ (s : List ℕ) where
       stretch-then _ (links-fit h) (λ h.
       stretch-then _ (turns-fit h) (λ h.
       stretch-then _ (signals-fit h) (λ h.
+      stretch-then _ (modes-fit h) (λ h.
       stretch-then _ (grids-fit h) (λ h.
       stretch-then _ (boxes-fit h) (λ h.
-      stretch-then _ (entries-fit h) end-fits))))))
+      stretch-then _ (entries-fit h) end-fits)))))))
 
 pub place-fits : PlaceFits
 place-fits s = let f = reading-fits s in (f .place, f .alone)

@@ -1,43 +1,92 @@
 -- What the tests of each record say (specs/Records.antt), in the plain terms of specs/Facts.antt, both ways. Assumes nothing.
 use Prim.Native.Nat.{ℕ, zero, suc, _+_, _-_, _≤_, _<_}
-use mathlib.Core.Bool.{true}
+use mathlib.Core.Bool.{Bool, true, false, not, _||_, false≢true}
 use mathlib.Core.List.{List}
 use mathlib.Core.Path.{_≡_, refl}
-use mathlib.Core.Logic.{_↔_}
+use mathlib.Core.Logic.{_↔_, _⊎_, inl, inr, ⊎-elim}
 use native.Mathlib.Omega.{arith}
-use borrow.Author.Tests.{le-leb}
+use borrow.Author.Tests.{le-leb, eqb-true, eq-eqb}
 use lib.ListN.{length}
-use lib.Dec.{leb}
-use Rattle.certificate.specs.Checks.{fine}
-use Rattle.certificate.specs.Layout.{headerSize, linkSize, turnSize, signalSize, gridSize, arrivalSize, entrySize, endSize, linksOf, linkAt, turnAt, signalAt, gridAt, intervalsOf, cutOf, capOf, arrivalAt, entryAt, endAt}
-use Rattle.certificate.specs.Records.{headerOk, headerFault, linkOk, linkFault, turnAscends, shareTotal, turnOk, turnFault, signalOk, signalFault, cutBefore, cutOk, cutFault, countOk, gridFault, rangeOk, rangeFault, arrivalFault, namesExist, entryAscends, entryFault, endFault}
-use Rattle.certificate.specs.Facts.{Mark, HeaderFacts, LinkFacts, TurnFacts, SignalFacts, GridFacts, BoxFacts, EntryFacts}
-use Rattle.certificate.proofs.Says.{says}
+use lib.Dec.{leb, eqb}
+use Rattle.certificate.specs.Checks.{fine, marked}
+use Rattle.certificate.specs.Layout.{headerSize, linkSize, turnSize, signalSize, modeSize, gridSize, arrivalSize, entrySize, endSize, linksOf, remembers, linkAt, turnAt, signalAt, modeAt, shownBefore, gridAt, intervalsOf, cutOf, capOf, arrivalAt, entryAt, signalOf, nextModeOf, endAt}
+use Rattle.certificate.specs.Records.{headerOk, headerMarked, headerFault, linkOk, linkFault, turnAscends, shareTotal, turnOk, turnFault, signalOk, signalFault, modeOk, modeFault, cutBefore, cutOk, cutFault, countOk, gridFault, rangeOk, rangeFault, arrivalFault, namesExist, entryAscends, passesOn, entryFault, endFault}
+use Rattle.certificate.specs.Facts.{Mark, HeaderMark, HeaderFacts, LinkFacts, TurnFacts, SignalFacts, ModeFacts, GridFacts, BoxFacts, EntryFacts, PassesOn}
+use Rattle.certificate.proofs.Says.{says, marked-says}
 use Rattle.certificate.proofs.Ascending.{all-ascend}
+use Rattle.certificate.proofs.KindSizes.{link-least}
 
 -- the record of that size at o ends within s
 abbrev pub Within : List ℕ → ℕ → ℕ → Type 0
 Within s o size = o + size ≤ length s
 
+-- one test or the other holds
+either-says : (a b : Bool) → ((a || b) ≡ true) ↔ ((a ≡ true) ⊎ (b ≡ true))
+either-says true b = ((λ e. inl refl), (λ h. refl))
+either-says false b = (inr, ⊎-elim (λ e. absurd (false≢true e)) (λ e. e))
+
+pub header-marked-says : (s : List ℕ) → (headerMarked s ≡ true) ↔ HeaderMark s
+unfolding headerMarked
+header-marked-says s =
+    let old = marked-says s 0 72 68 in
+    let new = marked-says s 0 72 50 in (
+      (λ e. ⊎-elim (λ p. inl (old .0 p)) (λ p. inr (new .0 p)) (either-says _ _ .0 e)),
+      (λ m. either-says _ _ .1 (⊎-elim (λ p. inl (old .1 p)) (λ p. inr (new .1 p)) m)),
+    )
+
 pub header-says : (s : List ℕ) → (headerFault s .number ≡ 0) ↔ (Within s 0 headerSize × HeaderFacts s)
 unfolding headerFault headerOk
-header-says s = simp says (omega arith)
+header-says s =
+    simp (says, header-marked-says) (
+      λ h. (
+        omega arith,
+        record {
+          mark = h .0 .1;
+          links-least = omega arith;
+          links-most = omega arith;
+          turns-most = omega arith;
+          signals-least = omega arith;
+          signals-most = omega arith;
+          modes-least = omega arith;
+          modes-most = omega arith;
+          boxes-least = omega arith;
+          boxes-most = omega arith;
+          entries-least = omega arith;
+          entries-most = omega arith;
+        },
+      ),
+      λ h. ((omega arith, h .1 .mark), omega (arith, h .1)),
+    )
 
-pub link-says : (s : List ℕ) (l : ℕ) → (linkFault s l .number ≡ 0) ↔ (Within s (linkAt l) linkSize × LinkFacts s l)
+pub link-says : (s : List ℕ) (l : ℕ) → (linkFault s l .number ≡ 0) ↔ (Within s (linkAt s l) (linkSize s) × LinkFacts s l)
 unfolding linkFault linkOk
-link-says s l = simp says (omega arith)
+link-says s l =
+    let z : leb 2 (linkSize s) ≡ true = le-leb 2 (linkSize s) (omega (arith, link-least s)) in
+    simp (says, z) (omega arith)
 
 pub signal-says : (s : List ℕ) (g : ℕ) → (signalFault s g .number ≡ 0) ↔ (Within s (signalAt s g) signalSize × SignalFacts s g)
 unfolding signalFault signalOk
 signal-says s g = simp says (omega arith)
 
+pub mode-says : (s : List ℕ) (m : ℕ) → (modeFault s m .number ≡ 0) ↔ (Within s (modeAt s m) modeSize × ModeFacts s m)
+unfolding modeFault modeOk
+mode-says s m = simp says (omega arith)
+
 pub turn-says : (s : List ℕ) (t : ℕ) → (turnFault s t .number ≡ 0) ↔ (Within s (turnAt s t) turnSize × TurnFacts s t × (turnAscends s t ≡ true) × (shareTotal s t ≤ 100))
 unfolding turnFault turnOk
 turn-says s t = simp says (λ h. (omega arith, omega arith, h .1 .0 .0 .1, omega arith), λ h. (omega arith, (((omega arith, h .2), omega arith), refl)))
 
-pub entry-says : (s : List ℕ) (e : ℕ) → (entryFault s e .number ≡ 0) ↔ (Within s (entryAt s e) entrySize × EntryFacts s e × (entryAscends s e ≡ true))
+pub passes-says : (s : List ℕ) (e : ℕ) → (passesOn s e ≡ true) ↔ PassesOn s e
+unfolding passesOn
+passes-says s e = go (remembers s)
+  where
+    go : (b : Bool) → ((not b || eqb (shownBefore s (nextModeOf s e)) (signalOf s e)) ≡ true) ↔ (b ≡ true → shownBefore s (nextModeOf s e) ≡ signalOf s e)
+    go true = ((λ p k. eqb-true _ _ p), (λ h. eq-eqb _ _ (h refl)))
+    go false = ((λ p k. absurd (false≢true k)), (λ h. refl))
+
+pub entry-says : (s : List ℕ) (e : ℕ) → (entryFault s e .number ≡ 0) ↔ (Within s (entryAt s e) entrySize × EntryFacts s e × (entryAscends s e ≡ true) × PassesOn s e)
 unfolding entryFault namesExist
-entry-says s e = simp says (λ h. (omega arith, omega arith, search h), λ h. search (h, refl, arith))
+entry-says s e = simp (says, passes-says) (λ h. (omega arith, omega arith, search h, search h), λ h. search (h, arith))
 
 pub end-says : (s : List ℕ) → (endFault s .number ≡ 0) ↔ ((length s ≡ endAt s + endSize) × Mark s (endAt s) 90 90)
 unfolding endFault
@@ -76,4 +125,4 @@ grid-says s l =
     cuts h (suc k) lt = ((h .ascend k (suc k) (omega arith) (omega arith), h .cut-most (suc k) (omega arith)), refl)
 
 -- all of them, with the tests that they are made of
-pub ruleset records-say = (says, header-says, link-says, turn-says, signal-says, grid-says, box-says, entry-says, end-says)
+pub ruleset records-say = (says, header-says, link-says, turn-says, signal-says, mode-says, grid-says, box-says, entry-says, end-says)

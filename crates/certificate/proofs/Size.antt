@@ -3,9 +3,10 @@ use Prim.Native.Nat.{ℕ, zero, suc, _+_, _*_, _≤_}
 use mathlib.Core.List.{List}
 use native.Mathlib.Nat.{mul-le-mul, one-le-mul}
 use native.Mathlib.Omega.{arith}
-use Rattle.certificate.specs.Layout.{maxIntervals, maxCells, maxLinks, maxBoxes, gridSize, arrivalSize, linksOf, boxesOf, turnsStart, signalsStart, gridStart, gridAt, productOf, arrivalsStart, entriesStart, endAt}
+use Rattle.certificate.specs.Layout.{maxIntervals, maxCells, maxLinks, maxBoxes, gridSize, arrivalSize, linksOf, boxesOf, turnsStart, signalsStart, modesStart, gridStart, gridAt, productOf, arrivalsStart, entriesStart, endAt}
 use Rattle.certificate.specs.Facts.{Readable}
 use Rattle.certificate.specs.Laws.{CellsInRange, ReadableFits}
+use Rattle.certificate.proofs.KindSizes.{links-most, records-most}
 
 module _ (s : List ℕ) (R : Readable s) where
   product-least : (l : ℕ) → l ≤ linksOf s → 1 ≤ productOf s l
@@ -33,5 +34,7 @@ pub cells-in-range : CellsInRange
 cells-in-range s R = (product-least s R (linksOf s) (omega arith), product-most s R (linksOf s) (R .header .links-least) (omega arith))
 
 pub readable-fits : ReadableFits
-unfolding turnsStart signalsStart gridStart arrivalsStart entriesStart endAt
-readable-fits s R = omega (arith, R .header, R .whole, grid-most s R (linksOf s) (omega arith), boxes-most s R)
+unfolding turnsStart signalsStart modesStart gridStart arrivalsStart entriesStart endAt
+readable-fits s R =
+    let links = links-most s (linksOf s) maxLinks (R .header .links-most) in
+    omega (arith, R .header, links, records-most s, R .whole, grid-most s R (linksOf s) (omega arith), boxes-most s R)

@@ -1,15 +1,17 @@
 -- A readable certificate is the fields of the layout, one after another. Assumes nothing.
 use Prim.Native.Nat.{ℕ, zero, suc, _+_, _*_, _-_, _<_}
+use mathlib.Core.Bool.{Bool, true, false}
 use mathlib.Core.List.{List, [], _∷_, _++_}
-use mathlib.Core.Path.{_≡_, refl, ap}
+use mathlib.Core.Path.{_≡_, refl, ap, _∙_}
+use mathlib.Core.Logic.{inl, inr}
 use native.Mathlib.Nat.{mul-suc}
 use native.Mathlib.Omega.{arith}
 use lib.ListN.{length}
 use Rattle.certificate.specs.Octets.{byteAt, u16At}
-use Rattle.certificate.specs.Layout.{linksOf, turnsOf, signalsOf, boxesOf, entriesOf, linkAt, turnsStart, turnAt, signalsStart, signalAt, gridStart, gridAt, intervalsOf, cutOf, arrivalsStart, arrivalAt, lowOf, highOf, entriesStart, entryAt, endAt}
-use Rattle.certificate.specs.Facts.{Readable}
-use Rattle.certificate.specs.Due.{LK, TN, SG, GR, AR, EN}
-use Rattle.certificate.specs.Fields.{Field, byte, u16, Stand, each, fieldsOf, recordsOf}
+use Rattle.certificate.specs.Layout.{headerSize, linksOf, turnsOf, signalsOf, boxesOf, entriesOf, remembers, linkSize, linkAt, startFlowOf, turnsStart, turnAt, signalsStart, signalAt, modeRecordsOf, modesStart, modeAt, shownBefore, gridStart, gridAt, intervalsOf, cutOf, arrivalsStart, arrivalAt, lowOf, highOf, entriesStart, entryAt, endAt}
+use Rattle.certificate.specs.Facts.{HeaderMark, Readable}
+use Rattle.certificate.specs.Due.{LK, TN, SG, MD, GR, AR, EN}
+use Rattle.certificate.specs.Fields.{Field, byte, u16, Stand, each, startField, fieldsOf, recordsOf}
 use Rattle.certificate.specs.Laws.{FieldsStand}
 use Rattle.certificate.proofs.KindOrder.{kindAt}
 
@@ -34,12 +36,30 @@ module _ (s : List ℕ) where
   moved : (fields : List Field) {o p e f : ℕ} → o ≡ p → e ≡ f → Stand s p fields f → Stand s o fields e
   moved fields p q h = rw (p, q) h
 
+  -- an LK ends with its start flow or before it
+  start-stands : (l : ℕ) → Stand s (linkAt s l + 12) (startField s l) (linkAt s (suc l))
+  unfolding linkSize startFlowOf
+  start-stands l = go (remembers s) refl
+    where
+      go : (b : Bool) → remembers s ≡ b → Stand s (linkAt s l + 12) (startField s l) (linkAt s (suc l))
+      go true e = rw e (refl, omega arith)
+      go false e = rw e (omega arith)
+
+  -- the memory of a mode that has a record
+  shown-stands : (m : ℕ) → m < modeRecordsOf s → byteAt s (modeAt s m + 2) ≡ shownBefore s m
+  unfolding modeRecordsOf shownBefore
+  shown-stands m lt = go (remembers s) refl
+    where
+      go : (b : Bool) → remembers s ≡ b → byteAt s (modeAt s m + 2) ≡ shownBefore s m
+      go true e = rw e
+      go false e = absurd (let none : modeRecordsOf s ≡ 0 = rw e in omega arith)
+
   module _ (R : Readable s) where
     -- each record, from its start to where the next one starts
-    link-stands : (l : ℕ) → l < linksOf s → Stand s (linkAt l) (fieldsOf s LK l) (linkAt (suc l))
+    link-stands : (l : ℕ) → l < linksOf s → Stand s (linkAt s l) (fieldsOf s LK l) (linkAt s (suc l))
     link-stands l lt =
         let m = R .link l lt .mark in
-        (m .first, (m .second, (byte-at (omega arith), (byte-at (omega arith), (u16-at (omega arith), (u16-at (omega arith), (u16-at (omega arith), (u16-at (omega arith), omega arith))))))))
+        (m .first, (m .second, (byte-at (omega arith), (byte-at (omega arith), (u16-at (omega arith), (u16-at (omega arith), (u16-at (omega arith), (u16-at (omega arith), moved (startField s l) (omega arith) refl (start-stands l)))))))))
 
     turn-stands : (t : ℕ) → t < turnsOf s → Stand s (turnAt s t) (fieldsOf s TN t) (turnAt s (suc t))
     turn-stands t lt =
@@ -48,6 +68,9 @@ module _ (s : List ℕ) where
 
     signal-stands : (g : ℕ) → g < signalsOf s → Stand s (signalAt s g) (fieldsOf s SG g) (signalAt s (suc g))
     signal-stands g lt = let m = R .signal g lt .mark in (m .first, (m .second, (byte-at (omega arith), omega arith)))
+
+    mode-stands : (m : ℕ) → m < modeRecordsOf s → Stand s (modeAt s m) (fieldsOf s MD m) (modeAt s (suc m))
+    mode-stands m lt = let k = R .mode m lt .mark in (k .first, (k .second, (byte-at (omega arith) ∙ shown-stands m lt, omega arith)))
 
     grid-stands : (l : ℕ) → l < linksOf s → Stand s (gridAt s l) (fieldsOf s GR l) (gridAt s (suc l))
     unfolding gridAt
@@ -80,27 +103,34 @@ module _ (s : List ℕ) where
 -- where each kind starts, and the end
 startOf : List ℕ → ℕ → ℕ
 startOf s zero = 0
-startOf s (suc zero) = linkAt 0
+startOf s (suc zero) = headerSize
 startOf s (suc (suc zero)) = turnsStart s
 startOf s (suc (suc (suc zero))) = signalsStart s
-startOf s (suc (suc (suc (suc zero)))) = gridStart s
-startOf s (suc (suc (suc (suc (suc zero))))) = arrivalsStart s
-startOf s (suc (suc (suc (suc (suc (suc zero)))))) = entriesStart s
-startOf s (suc (suc (suc (suc (suc (suc (suc zero))))))) = endAt s
-startOf s (suc (suc (suc (suc (suc (suc (suc (suc n)))))))) = length s
+startOf s (suc (suc (suc (suc zero)))) = modesStart s
+startOf s (suc (suc (suc (suc (suc zero))))) = gridStart s
+startOf s (suc (suc (suc (suc (suc (suc zero)))))) = arrivalsStart s
+startOf s (suc (suc (suc (suc (suc (suc (suc zero))))))) = entriesStart s
+startOf s (suc (suc (suc (suc (suc (suc (suc (suc zero)))))))) = endAt s
+startOf s (suc (suc (suc (suc (suc (suc (suc (suc (suc n))))))))) = length s
 
-kind-stands : (s : List ℕ) → Readable s → (n : ℕ) → n < 8 → Stand s (startOf s n) (recordsOf s (kindAt n)) (startOf s (suc n))
-unfolding startOf kindAt turnsStart signalsStart gridStart gridAt arrivalsStart entriesStart endAt
-kind-stands s R zero lt = let m = R .header .mark in (m .first, (m .second, (refl, (refl, (refl, (refl, (refl, (refl, refl))))))))
-kind-stands s R (suc zero) lt = in-turn s (fieldsOf s LK) linkAt (linksOf s) (link-stands s R)
+-- both marks of the first record begin with H
+header-first : (s : List ℕ) → HeaderMark s → byteAt s 0 ≡ 72
+header-first s (inl m) = m .first
+header-first s (inr m) = m .first
+
+kind-stands : (s : List ℕ) → Readable s → (n : ℕ) → n < 9 → Stand s (startOf s n) (recordsOf s (kindAt n)) (startOf s (suc n))
+unfolding startOf kindAt turnsStart signalsStart modesStart gridStart gridAt arrivalsStart entriesStart endAt
+kind-stands s R zero lt = (header-first s (R .header .mark), (refl, (refl, (refl, (refl, (refl, (refl, (refl, refl))))))))
+kind-stands s R (suc zero) lt = moved s (recordsOf s LK) (omega arith) refl (in-turn s (fieldsOf s LK) (linkAt s) (linksOf s) (link-stands s R))
 kind-stands s R (suc (suc zero)) lt = moved s (recordsOf s TN) (omega arith) refl (in-turn s (fieldsOf s TN) (turnAt s) (turnsOf s) (turn-stands s R))
 kind-stands s R (suc (suc (suc zero))) lt = moved s (recordsOf s SG) (omega arith) refl (in-turn s (fieldsOf s SG) (signalAt s) (signalsOf s) (signal-stands s R))
-kind-stands s R (suc (suc (suc (suc zero)))) lt = in-turn s (fieldsOf s GR) (gridAt s) (linksOf s) (grid-stands s R)
-kind-stands s R (suc (suc (suc (suc (suc zero))))) lt = moved s (recordsOf s AR) (omega arith) refl (in-turn s (fieldsOf s AR) (arrivalAt s) (boxesOf s) (box-stands s R))
-kind-stands s R (suc (suc (suc (suc (suc (suc zero)))))) lt = moved s (recordsOf s EN) (omega arith) refl (in-turn s (fieldsOf s EN) (entryAt s) (entriesOf s) (entry-stands s R))
-kind-stands s R (suc (suc (suc (suc (suc (suc (suc zero))))))) lt = (R .end-mark .first, (R .end-mark .second, omega (arith, R .whole)))
-kind-stands s R (suc (suc (suc (suc (suc (suc (suc (suc n)))))))) lt = absurd (omega arith)
+kind-stands s R (suc (suc (suc (suc zero)))) lt = moved s (recordsOf s MD) (omega arith) refl (in-turn s (fieldsOf s MD) (modeAt s) (modeRecordsOf s) (mode-stands s R))
+kind-stands s R (suc (suc (suc (suc (suc zero))))) lt = in-turn s (fieldsOf s GR) (gridAt s) (linksOf s) (grid-stands s R)
+kind-stands s R (suc (suc (suc (suc (suc (suc zero)))))) lt = moved s (recordsOf s AR) (omega arith) refl (in-turn s (fieldsOf s AR) (arrivalAt s) (boxesOf s) (box-stands s R))
+kind-stands s R (suc (suc (suc (suc (suc (suc (suc zero))))))) lt = moved s (recordsOf s EN) (omega arith) refl (in-turn s (fieldsOf s EN) (entryAt s) (entriesOf s) (entry-stands s R))
+kind-stands s R (suc (suc (suc (suc (suc (suc (suc (suc zero)))))))) lt = (R .end-mark .first, (R .end-mark .second, omega (arith, R .whole)))
+kind-stands s R (suc (suc (suc (suc (suc (suc (suc (suc (suc n))))))))) lt = absurd (omega arith)
 
 pub fields-stand : FieldsStand
 unfolding startOf kindAt
-fields-stand s R = in-turn s (λ n. recordsOf s (kindAt n)) (startOf s) 8 (kind-stands s R)
+fields-stand s R = in-turn s (λ n. recordsOf s (kindAt n)) (startOf s) 9 (kind-stands s R)

@@ -1,16 +1,17 @@
 -- The records in the order in which reading takes them, and what may be wrong with the one that is due, in plain terms.
 use Prim.Native.Nat.{ℕ, _+_, _*_, _≤_, _<_}
+use mathlib.Core.Bool.{true}
 use mathlib.Core.List.{List}
 use mathlib.Core.Logic.{_⊎_}
 use mathlib.Core.Path.{_≡_}
 use lib.ListN.{length}
-use Rattle.certificate.specs.Layout.{maxShare, maxIntervals, maxCells, headerSize, linkSize, turnSize, signalSize, gridSize, arrivalSize, entrySize, endSize, linksOf, turnsOf, signalsOf, modesOf, boxesOf, entriesOf, linkAt, turnAt, fromOf, toOf, signalAt, gridAt, intervalsOf, productOf, cellsOf, arrivalAt, entryAt, cellOf, modeOf, signalOf, nextModeOf, endAt}
+use Rattle.certificate.specs.Layout.{maxShare, maxIntervals, maxCells, headerSize, linkSize, turnSize, signalSize, modeSize, gridSize, arrivalSize, entrySize, endSize, linksOf, turnsOf, signalsOf, modesOf, boxesOf, entriesOf, remembers, linkAt, turnAt, fromOf, toOf, signalAt, modeRecordsOf, modeAt, shownBefore, gridAt, intervalsOf, productOf, cellsOf, arrivalAt, entryAt, cellOf, modeOf, signalOf, nextModeOf, endAt}
 use Rattle.certificate.specs.Records.{shareTotal}
-use Rattle.certificate.specs.Facts.{Mark, HeaderFacts, LinkFacts, PairBelow, TurnFacts, SignalFacts, GridFacts, BoxFacts, EntryFacts}
+use Rattle.certificate.specs.Facts.{Mark, HeaderMark, HeaderFacts, LinkFacts, PairBelow, TurnFacts, SignalFacts, ModeFacts, GridFacts, BoxFacts, EntryFacts, PassesOn}
 
--- The kinds of records.
+-- The kinds of records. HD is the first one, whether its mark is HD or H2.
 pub data Kind : Type 0 where
-  HD LK TN SG GR AR EN ZZ : Kind
+  HD LK TN SG MD GR AR EN ZZ : Kind
 
 -- their order
 abbrev pub orderOf : Kind → ℕ
@@ -18,17 +19,19 @@ orderOf HD = 0
 orderOf LK = 1
 orderOf TN = 2
 orderOf SG = 3
-orderOf GR = 4
-orderOf AR = 5
-orderOf EN = 6
-orderOf ZZ = 7
+orderOf MD = 4
+orderOf GR = 5
+orderOf AR = 6
+orderOf EN = 7
+orderOf ZZ = 8
 
--- the refusal of a field that breaks its line (EN: a name; its order has 22. ZZ has no field: 2 is a byte after it)
+-- the refusal of a field that breaks its line (EN: a name; its order has 22, what it passes on 23. ZZ has no field: 2 is a byte after it)
 abbrev pub fieldNumber : Kind → ℕ
 fieldNumber HD = 3
 fieldNumber LK = 4
 fieldNumber TN = 5
 fieldNumber SG = 6
+fieldNumber MD = 6
 fieldNumber GR = 7
 fieldNumber AR = 8
 fieldNumber EN = 9
@@ -40,6 +43,7 @@ manyOf s HD = 1
 manyOf s LK = linksOf s
 manyOf s TN = turnsOf s
 manyOf s SG = signalsOf s
+manyOf s MD = modeRecordsOf s
 manyOf s GR = linksOf s
 manyOf s AR = boxesOf s
 manyOf s EN = entriesOf s
@@ -48,9 +52,10 @@ manyOf s ZZ = 1
 -- where record i of a kind starts
 abbrev pub recordAt : List ℕ → Kind → ℕ → ℕ
 recordAt s HD i = 0
-recordAt s LK i = linkAt i
+recordAt s LK i = linkAt s i
 recordAt s TN i = turnAt s i
 recordAt s SG i = signalAt s i
+recordAt s MD i = modeAt s i
 recordAt s GR i = gridAt s i
 recordAt s AR i = arrivalAt s i
 recordAt s EN i = entryAt s i
@@ -62,10 +67,11 @@ Present s k i = recordAt s k i + 2 ≤ length s
 
 -- its mark is right
 abbrev pub Marked : List ℕ → Kind → ℕ → Type 0
-Marked s HD i = Mark s 0 72 68
-Marked s LK i = Mark s (linkAt i) 76 75
+Marked s HD i = HeaderMark s
+Marked s LK i = Mark s (linkAt s i) 76 75
 Marked s TN i = Mark s (turnAt s i) 84 78
 Marked s SG i = Mark s (signalAt s i) 83 71
+Marked s MD i = Mark s (modeAt s i) 77 68
 Marked s GR i = Mark s (gridAt s i) 71 82
 Marked s AR i = Mark s (arrivalAt s i) 65 82
 Marked s EN i = Mark s (entryAt s i) 69 78
@@ -80,9 +86,10 @@ pub record CountFacts (s : List ℕ) (l : ℕ) : Type 0 where
 -- it is whole. The cuts of a GR must be present only where its count passes.
 abbrev pub Whole : List ℕ → Kind → ℕ → Type 0
 Whole s HD i = headerSize ≤ length s
-Whole s LK i = linkAt i + linkSize ≤ length s
+Whole s LK i = linkAt s i + linkSize s ≤ length s
 Whole s TN i = turnAt s i + turnSize ≤ length s
 Whole s SG i = signalAt s i + signalSize ≤ length s
+Whole s MD i = modeAt s i + modeSize ≤ length s
 Whole s GR i = (gridAt s i + 3 ≤ length s) × (CountFacts s i → gridAt s i + gridSize (intervalsOf s i) ≤ length s)
 Whole s AR i = arrivalAt s i + arrivalSize (linksOf s) ≤ length s
 Whole s EN i = entryAt s i + entrySize ≤ length s
@@ -98,9 +105,10 @@ Line s HD i = HeaderFacts s
 Line s LK i = LinkFacts s i
 Line s TN i = TurnFacts s i × Above (fromOf s) (toOf s) i × (shareTotal s i ≤ maxShare)
 Line s SG i = SignalFacts s i
+Line s MD i = ModeFacts s i
 Line s GR i = GridFacts s i
 Line s AR i = BoxFacts s i
-Line s EN i = EntryFacts s i × Above (cellOf s) (modeOf s) i
+Line s EN i = EntryFacts s i × Above (cellOf s) (modeOf s) i × PassesOn s i
 Line s ZZ i = Mark s (endAt s) 90 90 × (length s ≡ endAt s + endSize)
 
 -- record i of kind k is due: it is one of those that HD counts, and every record before it is whole and as its line says
@@ -119,7 +127,7 @@ WrongMark s k i = Present s k i × (Marked s k i → ⊥)
 abbrev pub BrokenLine : List ℕ → Kind → ℕ → Type 0
 BrokenLine s k i = Marked s k i × Whole s k i × (Line s k i → ⊥)
 
--- An entry's line has two. First its names: a cell, mode, signal or next mode that it names is missing.
+-- An entry's line has three. First its names: a cell, mode, signal or next mode that it names is missing.
 pub data Missing (s : List ℕ) (e : ℕ) : Type 0 where
   cell : cellsOf s ≤ cellOf s e → Missing s e
   mode : modesOf s ≤ modeOf s e → Missing s e
@@ -133,3 +141,8 @@ MissingName s e = Marked s EN e × Whole s EN e × Missing s e
 abbrev pub WrongOrder : List ℕ → ℕ → Type 0
 WrongOrder s e =
     Whole s EN e × EntryFacts s e × ((h : ℕ) × (h + 1 ≡ e) × (PairBelow (cellOf s h) (modeOf s h) (cellOf s e) (modeOf s e) → ⊥))
+
+-- Then what it passes on: its names exist, its pair is above, and in H2 its next mode remembers a signal other than its own.
+abbrev pub OtherSignal : List ℕ → ℕ → Type 0
+OtherSignal s e =
+    Whole s EN e × EntryFacts s e × Above (cellOf s) (modeOf s) e × (remembers s ≡ true) × (shownBefore s (nextModeOf s e) ≡ signalOf s e → ⊥)

@@ -1,5 +1,6 @@
 -- What reading establishes, in plain terms: the lines of document 01's paper layout, for every link, turn, box, entry and offset.
 use Prim.Native.Nat.{ℕ, _+_, _*_, _-_, _^_, _≤_, _<_}
+use mathlib.Core.Bool.{true}
 use mathlib.Core.List.{List}
 use mathlib.Core.Logic.{_⊎_}
 use mathlib.Core.Path.{_≡_}
@@ -7,15 +8,19 @@ use lib.ListN.{length}
 use lib.Dec.{eqb}
 use Rattle.certificate.specs.Octets.{byteAt}
 use Rattle.certificate.specs.Loops.{pick, sumTo}
-use Rattle.certificate.specs.Layout.{maxLinks, maxTurns, maxSignals, maxModes, maxBoxes, maxEntries, maxCap, maxShare, maxPull, maxArrival, maxIntervals, maxCells, maxLength, endSize, linksOf, turnsOf, signalsOf, modesOf, boxesOf, entriesOf, linkAt, tailOf, headOf, capOf, flowOf, safeOf, goalOf, turnAt, fromOf, toOf, shareOf, pullOf, signalAt, greenByteOf, gridAt, intervalsOf, cutOf, productOf, cellsOf, arrivalAt, lowOf, highOf, entryAt, cellOf, modeOf, signalOf, nextModeOf, endAt}
+use Rattle.certificate.specs.Layout.{maxLinks, maxTurns, maxSignals, maxModes, maxBoxes, maxEntries, maxCap, maxShare, maxPull, maxArrival, maxIntervals, maxCells, maxLength, endSize, linksOf, turnsOf, signalsOf, modesOf, boxesOf, entriesOf, remembers, linkAt, tailOf, headOf, capOf, flowOf, safeOf, goalOf, startFlowOf, turnAt, fromOf, toOf, shareOf, pullOf, signalAt, greenByteOf, modeRecordsOf, modeAt, shownBefore, gridAt, intervalsOf, cutOf, productOf, cellsOf, arrivalAt, lowOf, highOf, entryAt, cellOf, modeOf, signalOf, nextModeOf, endAt}
 
 -- the mark at offset o is m and k
 pub record Mark (s : List ℕ) (o m k : ℕ) : Type 0 where
   pub first : byteAt s o ≡ m
   pub second : byteAt s (o + 1) ≡ k
 
+-- HD or H2
+abbrev pub HeaderMark : List ℕ → Type 0
+HeaderMark s = Mark s 0 72 68 ⊎ Mark s 0 72 50
+
 pub record HeaderFacts (s : List ℕ) : Type 0 where
-  pub mark : Mark s 0 72 68
+  pub mark : HeaderMark s
   pub links-least : 1 ≤ linksOf s
   pub links-most : linksOf s ≤ maxLinks
   pub turns-most : turnsOf s ≤ maxTurns
@@ -29,7 +34,7 @@ pub record HeaderFacts (s : List ℕ) : Type 0 where
   pub entries-most : entriesOf s ≤ maxEntries
 
 pub record LinkFacts (s : List ℕ) (l : ℕ) : Type 0 where
-  pub mark : Mark s (linkAt l) 76 75
+  pub mark : Mark s (linkAt s l) 76 75
   pub head-least : 1 ≤ headOf s l
   pub no-loop : headOf s l ≡ tailOf s l → ⊥
   pub cap-least : 1 ≤ capOf s l
@@ -38,6 +43,8 @@ pub record LinkFacts (s : List ℕ) (l : ℕ) : Type 0 where
   pub flow-most : flowOf s l ≤ capOf s l
   pub safe-most : safeOf s l ≤ capOf s l
   pub goal-most : goalOf s l ≤ safeOf s l
+  pub start-least : 1 ≤ startFlowOf s l
+  pub start-most : startFlowOf s l ≤ flowOf s l
 
 -- the pair (a, b) is below (c, d): by the first, then by the second
 abbrev pub PairBelow : ℕ → ℕ → ℕ → ℕ → Type 0
@@ -56,6 +63,10 @@ pub record TurnFacts (s : List ℕ) (t : ℕ) : Type 0 where
 pub record SignalFacts (s : List ℕ) (g : ℕ) : Type 0 where
   pub mark : Mark s (signalAt s g) 83 71
   pub absent-red : greenByteOf s g < 2 ^ linksOf s
+
+pub record ModeFacts (s : List ℕ) (m : ℕ) : Type 0 where
+  pub mark : Mark s (modeAt s m) 77 68
+  pub signal : shownBefore s m < signalsOf s
 
 pub record GridFacts (s : List ℕ) (l : ℕ) : Type 0 where
   pub mark : Mark s (gridAt s l) 71 82
@@ -78,6 +89,10 @@ pub record EntryFacts (s : List ℕ) (e : ℕ) : Type 0 where
   pub signal : signalOf s e < signalsOf s
   pub next-mode : nextModeOf s e < modesOf s
 
+-- in H2 the next mode of entry e remembers its signal
+abbrev pub PassesOn : List ℕ → ℕ → Type 0
+PassesOn s e = remembers s ≡ true → shownBefore s (nextModeOf s e) ≡ signalOf s e
+
 -- a readable certificate, record by record
 pub record Readable (s : List ℕ) : Type 0 where
   pub header : HeaderFacts s
@@ -88,11 +103,13 @@ pub record Readable (s : List ℕ) : Type 0 where
   -- shares from one link total at most 100
   pub shares : (l : ℕ) → sumTo (turnsOf s) (λ t. pick (eqb (fromOf s t) l) (shareOf s t) 0) ≤ maxShare
   pub signal : (g : ℕ) → g < signalsOf s → SignalFacts s g
+  pub mode : (m : ℕ) → m < modeRecordsOf s → ModeFacts s m
   pub grid : (l : ℕ) → l < linksOf s → GridFacts s l
   pub box : (b : ℕ) → b < boxesOf s → BoxFacts s b
   pub entry : (e : ℕ) → e < entriesOf s → EntryFacts s e
   -- pairs (cell, mode) strictly ascend
   pub entries-ascend : (e f : ℕ) → e < f → f < entriesOf s → PairBelow (cellOf s e) (modeOf s e) (cellOf s f) (modeOf s f)
+  pub passes-on : (e : ℕ) → e < entriesOf s → PassesOn s e
   -- ZZ, and nothing follows
   pub end-mark : Mark s (endAt s) 90 90
   pub whole : length s ≡ endAt s + endSize

@@ -1,10 +1,11 @@
--- The paper layout of document 01 as one list: every field of a certificate, in order. A law says that a readable certificate is just that.
+-- The paper layout of documents 01 and 02 as one list: every field of a certificate, in order. A law says that a readable certificate is just that.
 use Prim.Native.Nat.{ℕ, zero, suc, _+_, _-_}
+use mathlib.Core.Bool.{cond}
 use mathlib.Core.List.{List, [], _∷_, _++_}
 use mathlib.Core.Path.{_≡_}
 use Rattle.certificate.specs.Octets.{byteAt, u16At}
-use Rattle.certificate.specs.Layout.{linksOf, turnsOf, signalsOf, modesOf, boxesOf, entriesOf, tailOf, headOf, capOf, flowOf, safeOf, goalOf, fromOf, toOf, shareOf, pullOf, greenByteOf, intervalsOf, cutOf, lowOf, highOf, cellOf, modeOf, signalOf, nextModeOf, rankOf}
-use Rattle.certificate.specs.Due.{Kind, HD, LK, TN, SG, GR, AR, EN, ZZ, manyOf}
+use Rattle.certificate.specs.Layout.{kindByteOf, remembers, linksOf, turnsOf, signalsOf, modesOf, boxesOf, entriesOf, tailOf, headOf, capOf, flowOf, safeOf, goalOf, startFlowOf, fromOf, toOf, shareOf, pullOf, greenByteOf, shownBefore, intervalsOf, cutOf, lowOf, highOf, cellOf, modeOf, signalOf, nextModeOf, rankOf}
+use Rattle.certificate.specs.Due.{Kind, HD, LK, TN, SG, MD, GR, AR, EN, ZZ, manyOf}
 
 -- a field of one byte or of two (u16), with its value
 pub data Field : Type 0 where
@@ -21,14 +22,19 @@ abbrev pub each : ℕ → (ℕ → List Field) → List Field
 each zero f = []
 each (suc n) f = each n f ++ f n
 
+-- in H2 an LK ends with the start flow
+abbrev pub startField : List ℕ → ℕ → List Field
+startField s l = cond (remembers s) (u16 (startFlowOf s l) ∷ []) []
+
 -- the fields of record i of a kind, the mark first
 abbrev pub fieldsOf : List ℕ → Kind → ℕ → List Field
 fieldsOf s HD i =
-    byte 72 ∷ byte 68 ∷ byte (linksOf s) ∷ byte (turnsOf s) ∷ byte (signalsOf s) ∷ byte (modesOf s) ∷ byte (boxesOf s) ∷ u16 (entriesOf s) ∷ []
+    byte 72 ∷ byte (kindByteOf s) ∷ byte (linksOf s) ∷ byte (turnsOf s) ∷ byte (signalsOf s) ∷ byte (modesOf s) ∷ byte (boxesOf s) ∷ u16 (entriesOf s) ∷ []
 fieldsOf s LK i =
-    byte 76 ∷ byte 75 ∷ byte (tailOf s i) ∷ byte (headOf s i) ∷ u16 (capOf s i) ∷ u16 (flowOf s i) ∷ u16 (safeOf s i) ∷ u16 (goalOf s i) ∷ []
+    byte 76 ∷ byte 75 ∷ byte (tailOf s i) ∷ byte (headOf s i) ∷ u16 (capOf s i) ∷ u16 (flowOf s i) ∷ u16 (safeOf s i) ∷ u16 (goalOf s i) ∷ startField s i
 fieldsOf s TN i = byte 84 ∷ byte 78 ∷ byte (fromOf s i) ∷ byte (toOf s i) ∷ byte (shareOf s i) ∷ u16 (pullOf s i) ∷ []
 fieldsOf s SG i = byte 83 ∷ byte 71 ∷ byte (greenByteOf s i) ∷ []
+fieldsOf s MD i = byte 77 ∷ byte 68 ∷ byte (shownBefore s i) ∷ []
 fieldsOf s GR i = byte 71 ∷ byte 82 ∷ byte (intervalsOf s i) ∷ each (intervalsOf s i - 1) (λ c. u16 (cutOf s i c) ∷ [])
 fieldsOf s AR i = byte 65 ∷ byte 82 ∷ each (linksOf s) (λ l. u16 (lowOf s i l) ∷ u16 (highOf s i l) ∷ [])
 fieldsOf s EN i =
@@ -41,4 +47,5 @@ recordsOf s k = each (manyOf s k) (fieldsOf s k)
 
 abbrev pub certificateFields : List ℕ → List Field
 certificateFields s =
-    recordsOf s HD ++ recordsOf s LK ++ recordsOf s TN ++ recordsOf s SG ++ recordsOf s GR ++ recordsOf s AR ++ recordsOf s EN ++ recordsOf s ZZ
+    recordsOf s HD ++ recordsOf s LK ++ recordsOf s TN ++ recordsOf s SG ++ recordsOf s MD ++ recordsOf s GR ++ recordsOf s AR ++ recordsOf s EN
+    ++ recordsOf s ZZ

@@ -1,16 +1,18 @@
 -- What is proved of reading (proofs/ of this crate). Statements only.
-use Prim.Native.Nat.{ℕ, _+_, _≤_, _<_}
+use Prim.Native.Nat.{ℕ, _+_, _*_, _≤_, _<_}
+use mathlib.Core.Bool.{true, false}
 use mathlib.Core.List.{List}
 use mathlib.Core.Path.{_≡_}
 use mathlib.Core.Logic.{_↔_, _⊎_}
 use lib.ListN.{length, take}
 use Rattle.certificate.specs.declared.Report.{Report}
-use Rattle.certificate.specs.Layout.{maxLength, endSize, cellsOf, maxCells, entryAt, endAt}
+use Rattle.certificate.specs.Layout.{maxLength, headerSize, plainLinkSize, endSize, signalsOf, remembers, linkAt, flowOf, startFlowOf, signalAt, gridStart, cellsOf, maxCells, entryAt, endAt}
+use Rattle.certificate.specs.Records.{passesOn}
 use Rattle.certificate.specs.Reading.{readingOf}
 use Rattle.certificate.specs.Checks.{result, fine}
 use Rattle.certificate.specs.Facts.{Mark, Readable}
 use Rattle.certificate.specs.Fields.{Stand, certificateFields}
-use Rattle.certificate.specs.Due.{Kind, HD, LK, TN, SG, GR, AR, EN, ZZ, fieldNumber, recordAt, Due, TooShort, WrongMark, BrokenLine, MissingName, WrongOrder}
+use Rattle.certificate.specs.Due.{Kind, HD, LK, TN, SG, MD, GR, AR, EN, ZZ, fieldNumber, recordAt, Due, TooShort, WrongMark, BrokenLine, MissingName, WrongOrder, OtherSignal}
 
 -- reading finds nothing to refuse exactly if every line of the layout holds
 abbrev pub ReadingIsPlain : Type 0
@@ -36,10 +38,25 @@ ReadableFits = (s : List ℕ) → Readable s → length s ≤ maxLength
 abbrev pub LongInput : Type 0
 LongInput = (s : List ℕ) → readingOf s ≡ readingOf (take (maxLength + 1) s)
 
--- the numbers of reading: 0 for success, and refusals 1 to 9 and 22
+-- the kind of a readable certificate is that of its mark: HD, or H2
+abbrev pub KindIsMark : Type 0
+KindIsMark = (s : List ℕ) → Readable s → (Mark s 0 72 68 × (remembers s ≡ false)) ⊎ (Mark s 0 72 50 × (remembers s ≡ true))
+
+-- in HD all stands as in document 01: no LK has a start flow of its own, there is no MD, and 23 passes
+pub record PlainLaid (s : List ℕ) : Type 0 where
+  pub link : (l : ℕ) → linkAt s l ≡ headerSize + plainLinkSize * l
+  pub start-flow : (l : ℕ) → startFlowOf s l ≡ flowOf s l
+  pub grid : gridStart s ≡ signalAt s (signalsOf s)
+  pub passes-on : (e : ℕ) → passesOn s e ≡ true
+
+abbrev pub PlainLayout : Type 0
+PlainLayout = (s : List ℕ) → remembers s ≡ false → PlainLaid s
+
+-- the numbers of reading: 0 for success, and refusals 1 to 9, 22 and 23
 pub data ReadingNumber (n : ℕ) : Type 0 where
   up-to-nine : n ≤ 9 → ReadingNumber n
   of-order : n ≡ 22 → ReadingNumber n
+  of-memory : n ≡ 23 → ReadingNumber n
 
 -- reading answers with no other number
 abbrev pub ReadingNumbers : Type 0
@@ -68,11 +85,17 @@ GoesOnAt s a = Due s ZZ 0 × Mark s (endAt s) 90 90 × (endAt s + endSize < leng
 abbrev pub RefusedMark : (List ℕ → Report) → Type 0
 RefusedMark answer = (s : List ℕ) (a b n : ℕ) → (answer s ≡ result 2 a b n) ↔ ((DueAt WrongMark s a ⊎ GoesOnAt s a) × (b ≡ 0) × (n ≡ 0))
 
--- 3 to 8: a field of a record of kind k breaks its line
+-- a record of kind k that is due breaks its line, and starts at a
+abbrev pub BrokenAt : Kind → List ℕ → ℕ → Type 0
+BrokenAt k s a = (i : ℕ) × Due s k i × BrokenLine s k i × (a ≡ recordAt s k i)
+
+-- 3, 4, 5, 7, 8: a field of a record of kind k breaks its line
 abbrev pub RefusedField : Kind → (List ℕ → Report) → Type 0
-RefusedField k answer =
-    (s : List ℕ) (a b n : ℕ)
-    → (answer s ≡ result (fieldNumber k) a b n) ↔ (((i : ℕ) × Due s k i × BrokenLine s k i × (a ≡ recordAt s k i)) × (b ≡ 0) × (n ≡ 0))
+RefusedField k answer = (s : List ℕ) (a b n : ℕ) → (answer s ≡ result (fieldNumber k) a b n) ↔ (BrokenAt k s a × (b ≡ 0) × (n ≡ 0))
+
+-- 6: the field of an SG or of an MD does
+abbrev pub RefusedSignal : (List ℕ → Report) → Type 0
+RefusedSignal answer = (s : List ℕ) (a b n : ℕ) → (answer s ≡ result 6 a b n) ↔ ((BrokenAt SG s a ⊎ BrokenAt MD s a) × (b ≡ 0) × (n ≡ 0))
 
 -- the entry that is due has this fault, and starts at a
 abbrev pub EntryDueAt : (List ℕ → ℕ → Type 0) → List ℕ → ℕ → Type 0
@@ -86,6 +109,10 @@ RefusedName answer = (s : List ℕ) (a b n : ℕ) → (answer s ≡ result 9 a b
 abbrev pub RefusedOrder : (List ℕ → Report) → Type 0
 RefusedOrder answer = (s : List ℕ) (a b n : ℕ) → (answer s ≡ result 22 a b n) ↔ (EntryDueAt WrongOrder s a × (b ≡ 0) × (n ≡ 0))
 
+-- 23: its names exist, its pair is above, and its next mode remembers another signal
+abbrev pub RefusedMemory : (List ℕ → Report) → Type 0
+RefusedMemory answer = (s : List ℕ) (a b n : ℕ) → (answer s ≡ result 23 a b n) ↔ (EntryDueAt OtherSignal s a × (b ≡ 0) × (n ≡ 0))
+
 -- all of them
 pub record Refusals (answer : List ℕ → Report) : Type 0 where
   pub short : RefusedShort answer
@@ -93,11 +120,12 @@ pub record Refusals (answer : List ℕ → Report) : Type 0 where
   pub header : RefusedField HD answer
   pub link : RefusedField LK answer
   pub turn : RefusedField TN answer
-  pub signal : RefusedField SG answer
+  pub signal : RefusedSignal answer
   pub grid : RefusedField GR answer
   pub arrival : RefusedField AR answer
   pub name : RefusedName answer
   pub order : RefusedOrder answer
+  pub memory : RefusedMemory answer
 
 abbrev pub ReadingRefuses : Type 0
 ReadingRefuses = Refusals readingOf

@@ -1,8 +1,12 @@
 -- Paper layout of document 01: the limits of the format, where each record stands, and its fields.
--- Records come in the order HD, LK, TN, SG, GR, AR, EN, ZZ.
+-- Records come in the order HD, LK, TN, SG, GR, AR, EN, ZZ. Certificates of the kind H2 (document 02, 5/14) open with H2 in place of HD, have
+-- a start flow in each LK, and MD records after SG.
 use Prim.Native.Nat.{ℕ, zero, suc, _+_, _*_, _-_}
 use mathlib.Core.List.{List}
+use mathlib.Core.Bool.{Bool}
+use lib.Dec.{eqb}
 use Rattle.certificate.specs.Octets.{byteAt, u16At}
+use Rattle.certificate.specs.Loops.{pick}
 
 -- The limits.
 abbrev pub maxLinks : ℕ
@@ -54,14 +58,21 @@ maxScale = 100000
 abbrev pub headerSize : ℕ
 headerSize = 9
 
-abbrev pub linkSize : ℕ
-linkSize = 12
+-- LK of HD, and of H2, the greatest
+abbrev pub plainLinkSize : ℕ
+plainLinkSize = 12
+
+abbrev pub maxLinkSize : ℕ
+maxLinkSize = 14
 
 abbrev pub turnSize : ℕ
 turnSize = 7
 
 abbrev pub signalSize : ℕ
 signalSize = 3
+
+abbrev pub modeSize : ℕ
+modeSize = 3
 
 abbrev pub gridSize : ℕ → ℕ
 gridSize count = 1 + 2 * count
@@ -78,10 +89,17 @@ endSize = 2
 -- the greatest length of a certificate: the sum of its greatest records
 abbrev pub maxLength : ℕ
 maxLength =
-    headerSize + maxLinks * linkSize + maxTurns * turnSize + maxSignals * signalSize + maxLinks * gridSize maxIntervals
+    headerSize + maxLinks * maxLinkSize + maxTurns * turnSize + maxSignals * signalSize + maxModes * modeSize + maxLinks * gridSize maxIntervals
     + maxBoxes * arrivalSize maxLinks + maxEntries * entrySize + endSize
 
--- HD: how many links, turns, signals, modes, arrival boxes, entries.
+-- HD or H2: the kind, which is the second byte of the mark, and how many links, turns, signals, modes, arrival boxes, entries.
+abbrev pub kindByteOf : List ℕ → ℕ
+kindByteOf s = byteAt s 1
+
+-- the kind is H2: links have start flows, and modes remember the signal shown before
+unfoldable pub remembers : List ℕ → Bool
+remembers s = eqb (kindByteOf s) 50
+
 abbrev pub linksOf : List ℕ → ℕ
 linksOf s = byteAt s 2
 
@@ -100,31 +118,39 @@ boxesOf s = byteAt s 6
 abbrev pub entriesOf : List ℕ → ℕ
 entriesOf s = u16At s 7
 
--- LK, link l: tail and head junction, cap (storage capacity), flow (saturation flow: the most that leaves in a step), safe, goal.
-abbrev pub linkAt : ℕ → ℕ
-linkAt l = headerSize + linkSize * l
+-- LK, link l: tail and head junction, cap (storage capacity), flow (saturation flow: the most that leaves in a step), safe, goal, and in H2 start
+-- flow: the most that leaves in the first green step.
+unfoldable pub linkSize : List ℕ → ℕ
+linkSize s = pick (remembers s) maxLinkSize plainLinkSize
+
+abbrev pub linkAt : List ℕ → ℕ → ℕ
+linkAt s l = headerSize + linkSize s * l
 
 abbrev pub tailOf : List ℕ → ℕ → ℕ
-tailOf s l = byteAt s (linkAt l + 2)
+tailOf s l = byteAt s (linkAt s l + 2)
 
 abbrev pub headOf : List ℕ → ℕ → ℕ
-headOf s l = byteAt s (linkAt l + 3)
+headOf s l = byteAt s (linkAt s l + 3)
 
 abbrev pub capOf : List ℕ → ℕ → ℕ
-capOf s l = u16At s (linkAt l + 4)
+capOf s l = u16At s (linkAt s l + 4)
 
 abbrev pub flowOf : List ℕ → ℕ → ℕ
-flowOf s l = u16At s (linkAt l + 6)
+flowOf s l = u16At s (linkAt s l + 6)
 
 abbrev pub safeOf : List ℕ → ℕ → ℕ
-safeOf s l = u16At s (linkAt l + 8)
+safeOf s l = u16At s (linkAt s l + 8)
 
 abbrev pub goalOf : List ℕ → ℕ → ℕ
-goalOf s l = u16At s (linkAt l + 10)
+goalOf s l = u16At s (linkAt s l + 10)
+
+-- in HD the first green step has the full flow
+unfoldable pub startFlowOf : List ℕ → ℕ → ℕ
+startFlowOf s l = pick (remembers s) (u16At s (linkAt s l + 12)) (flowOf s l)
 
 -- TN, turn t: from, to, share (turn ratio in hundredths), pull (supply ratio in hundredths).
 unfoldable pub turnsStart : List ℕ → ℕ
-turnsStart s = linkAt (linksOf s)
+turnsStart s = linkAt s (linksOf s)
 
 abbrev pub turnAt : List ℕ → ℕ → ℕ
 turnAt s t = turnsStart s + turnSize * t
@@ -151,9 +177,23 @@ signalAt s g = signalsStart s + signalSize * g
 abbrev pub greenByteOf : List ℕ → ℕ → ℕ
 greenByteOf s g = byteAt s (signalAt s g + 2)
 
+-- MD, mode m: the signal shown before. H2 has one a mode, HD none.
+unfoldable pub modeRecordsOf : List ℕ → ℕ
+modeRecordsOf s = pick (remembers s) (modesOf s) 0
+
+unfoldable pub modesStart : List ℕ → ℕ
+modesStart s = signalAt s (signalsOf s)
+
+abbrev pub modeAt : List ℕ → ℕ → ℕ
+modeAt s m = modesStart s + modeSize * m
+
+-- 0 in HD, where no limit depends on it
+unfoldable pub shownBefore : List ℕ → ℕ → ℕ
+shownBefore s m = pick (remembers s) (byteAt s (modeAt s m + 2)) 0
+
 -- GR, link l: how many intervals, and its cuts. The records differ in size, so each starts where the one before it ends.
 unfoldable pub gridStart : List ℕ → ℕ
-gridStart s = signalAt s (signalsOf s)
+gridStart s = modeAt s (modeRecordsOf s)
 
 abbrev pub countAt : List ℕ → ℕ → ℕ
 countAt s o = byteAt s (o + 2)

@@ -1,4 +1,4 @@
--- The tests of each record, and their refusals 1 to 9 and 22.
+-- The tests of each record, and their refusals 1 to 9, 22 and 23.
 use Prim.Native.Nat.{ℕ, zero, suc, _+_, _*_, _-_, _^_}
 use mathlib.Core.List.{List}
 use mathlib.Core.Bool.{Bool, true, not, _&&_, _||_}
@@ -8,9 +8,9 @@ use Rattle.certificate.specs.declared.Report.{Report}
 use Rattle.certificate.specs.Octets.{byteAt, _also_}
 use Rattle.certificate.specs.Loops.{pick, sumTo}
 use Rattle.certificate.specs.Checks.{refusal, fine, need, orElse, firstBad, marked, opened}
-use Rattle.certificate.specs.Layout.{maxLinks, maxTurns, maxSignals, maxModes, maxBoxes, maxEntries, maxCap, maxShare, maxPull, maxArrival, maxIntervals, maxCells, headerSize, linkSize, turnSize, signalSize, gridSize, arrivalSize, entrySize, endSize, linksOf, turnsOf, signalsOf, modesOf, boxesOf, entriesOf, linkAt, tailOf, headOf, capOf, flowOf, safeOf, goalOf, turnAt, fromOf, toOf, shareOf, pullOf, signalAt, greenByteOf, gridAt, intervalsOf, cutOf, productOf, cellsOf, arrivalAt, lowOf, highOf, entryAt, cellOf, modeOf, signalOf, nextModeOf, endAt}
+use Rattle.certificate.specs.Layout.{maxLinks, maxTurns, maxSignals, maxModes, maxBoxes, maxEntries, maxCap, maxShare, maxPull, maxArrival, maxIntervals, maxCells, headerSize, linkSize, turnSize, signalSize, modeSize, gridSize, arrivalSize, entrySize, endSize, linksOf, turnsOf, signalsOf, modesOf, boxesOf, entriesOf, remembers, linkAt, tailOf, headOf, capOf, flowOf, safeOf, goalOf, startFlowOf, turnAt, fromOf, toOf, shareOf, pullOf, signalAt, greenByteOf, modeAt, shownBefore, gridAt, intervalsOf, cutOf, productOf, cellsOf, arrivalAt, lowOf, highOf, entryAt, cellOf, modeOf, signalOf, nextModeOf, endAt}
 
--- HD: links 1 to 8, turns 0 to 32, signals 1 to 16, modes 1 to 8, arrival boxes 1 to 8, entries 1 to 4,096. Mark "HD".
+-- HD: links 1 to 8, turns 0 to 32, signals 1 to 16, modes 1 to 8, arrival boxes 1 to 8, entries 1 to 4,096. Mark "HD" or "H2".
 unfoldable pub headerOk : List ℕ → Bool
 headerOk s =
     leb 1 (linksOf s) also leb (linksOf s) maxLinks
@@ -20,10 +20,13 @@ headerOk s =
     also leb 1 (boxesOf s) also leb (boxesOf s) maxBoxes
     also leb 1 (entriesOf s) also leb (entriesOf s) maxEntries
 
-unfoldable pub headerFault : List ℕ → Report
-headerFault s = orElse (opened s 0 (marked s 0 72 68) headerSize) (need (headerOk s) (refusal 3 0) fine)
+unfoldable pub headerMarked : List ℕ → Bool
+headerMarked s = marked s 0 72 68 || marked s 0 72 50
 
--- LK: head 1 to 255 and not the tail, cap 1 to 10,000, flow 1 to cap, safe at most cap, goal at most safe. Mark "LK".
+unfoldable pub headerFault : List ℕ → Report
+headerFault s = orElse (opened s 0 (headerMarked s) headerSize) (need (headerOk s) (refusal 3 0) fine)
+
+-- LK: head 1 to 255 and not the tail, cap 1 to 10,000, flow 1 to cap, safe at most cap, goal at most safe, start flow 1 to flow. Mark "LK".
 unfoldable pub linkOk : List ℕ → ℕ → Bool
 linkOk s l =
     leb 1 (headOf s l)
@@ -32,11 +35,12 @@ linkOk s l =
     also leb 1 (flowOf s l) also leb (flowOf s l) (capOf s l)
     also leb (safeOf s l) (capOf s l)
     also leb (goalOf s l) (safeOf s l)
+    also leb 1 (startFlowOf s l) also leb (startFlowOf s l) (flowOf s l)
 
 unfoldable pub linkFault : List ℕ → ℕ → Report
 linkFault s l =
-    orElse (opened s (linkAt l) (marked s (linkAt l) 76 75) linkSize)
-    (need (linkOk s l) (refusal 4 (linkAt l)) fine)
+    orElse (opened s (linkAt s l) (marked s (linkAt s l) 76 75) (linkSize s))
+    (need (linkOk s l) (refusal 4 (linkAt s l)) fine)
 
 -- pairs (a, b) and (c, d) ascend strictly: by the first, then by the second
 unfoldable pub pairBelow : ℕ → ℕ → ℕ → ℕ → Bool
@@ -74,6 +78,15 @@ unfoldable pub signalFault : List ℕ → ℕ → Report
 signalFault s g =
     orElse (opened s (signalAt s g) (marked s (signalAt s g) 83 71) signalSize)
     (need (signalOk s g) (refusal 6 (signalAt s g)) fine)
+
+-- MD: the signal shown before exists. Mark "MD".
+unfoldable pub modeOk : List ℕ → ℕ → Bool
+modeOk s m = ltb (shownBefore s m) (signalsOf s)
+
+unfoldable pub modeFault : List ℕ → ℕ → Report
+modeFault s m =
+    orElse (opened s (modeAt s m) (marked s (modeAt s m) 77 68) modeSize)
+    (need (modeOk s m) (refusal 6 (modeAt s m)) fine)
 
 -- the cut before cut i of link l, and 0 before the first
 unfoldable pub cutBefore : List ℕ → ℕ → ℕ → ℕ
@@ -124,13 +137,19 @@ unfoldable pub entryAscends : List ℕ → ℕ → Bool
 entryAscends s zero = true
 entryAscends s (suc e) = pairBelow (cellOf s e) (modeOf s e) (cellOf s (suc e)) (modeOf s (suc e))
 
--- EN: names exist (9), then pairs ascend (22), both with the record's offset; the rank is free. Mark "EN".
+-- in H2 the next mode of entry e remembers its signal
+unfoldable pub passesOn : List ℕ → ℕ → Bool
+passesOn s e = not (remembers s) || eqb (shownBefore s (nextModeOf s e)) (signalOf s e)
+
+-- EN: names exist (9), then pairs ascend (22), then the next mode remembers the signal (23), all with the record's offset; the rank is free.
+-- Mark "EN".
 unfoldable pub entryFault : List ℕ → ℕ → Report
 entryFault s e =
     orElse (opened s (entryAt s e) (marked s (entryAt s e) 69 78) entrySize)
     (need (namesExist s e) (refusal 9 (entryAt s e))
     (need (entryAscends s e) (refusal 22 (entryAt s e))
-    fine))
+    (need (passesOn s e) (refusal 23 (entryAt s e))
+    fine)))
 
 -- ZZ: nothing follows; a byte after it is refused at its own offset. Mark "ZZ".
 unfoldable pub endFault : List ℕ → Report

@@ -29,21 +29,27 @@ pub const MAX_CELLS: usize = 4096;
 
 pub const HEADER_SIZE: usize = 9;
 
-pub const LINK_SIZE: usize = 12;
+// LK of HD, and of H2, the greatest.
+pub const PLAIN_LINK_SIZE: usize = 12;
+
+pub const MAX_LINK_SIZE: usize = 14;
 
 pub const TURN_SIZE: usize = 7;
 
 pub const SIGNAL_SIZE: usize = 3;
 
+pub const MODE_SIZE: usize = 3;
+
 pub const ENTRY_SIZE: usize = 9;
 
 pub const END_SIZE: usize = 2;
 
-// The greatest length of a certificate: the sum of its greatest records HD, LK, TN, SG, GR, AR, EN, ZZ.
+// The greatest length of a certificate: the sum of its greatest records HD, LK, TN, SG, MD, GR, AR, EN, ZZ.
 pub const MAX_LENGTH: usize = HEADER_SIZE
-    + MAX_LINKS * LINK_SIZE
+    + MAX_LINKS * MAX_LINK_SIZE
     + MAX_TURNS * TURN_SIZE
     + MAX_SIGNALS * SIGNAL_SIZE
+    + MAX_MODES * MODE_SIZE
     + MAX_LINKS * (1 + 2 * MAX_INTERVALS)
     + MAX_BOXES * (2 + 4 * MAX_LINKS)
     + MAX_ENTRIES * ENTRY_SIZE

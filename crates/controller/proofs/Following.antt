@@ -13,7 +13,7 @@ use Rattle.grid.proofs.Intervals.{one-cell}
 use Rattle.judging.specs.Asking.{queueAt, cellAsked}
 use Rattle.judging.proofs.Verdicts.{accepted-is-plain}
 use Rattle.runs.specs.Fractions.{Fraction}
-use Rattle.runs.specs.Runs.{RunState, Step, start, InForce, moved, stepped, after, momentOf, ProperSteps}
+use Rattle.runs.specs.Runs.{RunState, Step, start, InForce, moved, stepped, after, momentOf, Remembered, ProperSteps}
 use Rattle.runs.proofs.Fractions.{scale-least}
 use Rattle.runs.proofs.Cells.{same-cell}
 use Rattle.runs.proofs.Steps.{Steady, steady, looks-up, moves}
@@ -92,27 +92,27 @@ module _ {Q : Type 0} (none : Q) (next : Controller → Q → Controller) (last 
     → (p : Step) → StandsAt s (stepped s r p) (next c q)) where
   -- along a list of steps
   stands : Steady s → (r : RunState) (e : ℕ) (c : Controller) (steps : List Step) (qs : List Q)
-      → 1 ≤ r .scale → InForce s r e → ProperSteps s steps → StandsAt s r c → length qs ≤ length steps
+      → 1 ≤ r .scale → InForce s r e → Remembered s r → ProperSteps s steps → StandsAt s r c → length qs ≤ length steps
       → ((k : ℕ) → k < length qs → Asks (momentOf s r steps k) (getD qs k none))
       → StandsAt s (momentOf s r steps (length qs)) (last c qs)
   unfolding after
-  stands S r e c steps [] pos F P A le asked = rw ends A
-  stands S r e c [] (q ∷ qs) pos F P A le asked = absurd (omega arith)
-  stands S r e c (p ∷ ps) (q ∷ qs) pos F P A le asked =
-      let f = S .step r e p F pos (P zero (omega arith)) in
+  stands S r e c steps [] pos F M P A le asked = rw ends A
+  stands S r e c [] (q ∷ qs) pos F M P A le asked = absurd (omega arith)
+  stands S r e c (p ∷ ps) (q ∷ qs) pos F M P A le asked =
+      let f = S .step r e p F pos M (P zero (omega arith)) in
       rw goes-on
-      (stands S (stepped s r p) (f .entry) _ ps qs (f .scale) (f .in-force) (λ k lt. P (suc k) (omega arith))
+      (stands S (stepped s r p) (f .entry) _ ps qs (f .scale) (f .in-force) (S .memory r p M) (λ k lt. P (suc k) (omega arith))
       (passes-on r e c q pos F A (asked zero (omega arith)) p) (omega arith) (λ k lt. asked (suc k) (omega arith)))
 
   -- from moment 0 of a run of an accepted certificate
   pub calls-follow-run : (mode : ℕ) (queues : List Fraction) (steps : List Step) → AcceptedRun s mode queues steps
-      → (c : Controller) (qs : List Q) → StandsAt s (start queues mode) c → length qs ≤ length steps
-      → ((k : ℕ) → k < length qs → Asks (momentOf s (start queues mode) steps k) (getD qs k none))
-      → StandsAt s (momentOf s (start queues mode) steps (length qs)) (last c qs)
+      → (c : Controller) (qs : List Q) → StandsAt s (start s queues mode) c → length qs ≤ length steps
+      → ((k : ℕ) → k < length qs → Asks (momentOf s (start s queues mode) steps k) (getD qs k none))
+      → StandsAt s (momentOf s (start s queues mode) steps (length qs)) (last c qs)
   calls-follow-run mode queues steps R c qs A le asked =
       let plain = accepted-is-plain s .0 (R .accepted) in
       let scale = scale-least queues (linksOf s) (R .first .count) (R .first .scales) in
-      stands (steady s (plain .0) (plain .1)) _ (R .entry) c steps qs scale (R .in-force) (R .proper) A le asked
+      stands (steady s (plain .0) (plain .1)) _ (R .entry) c steps qs scale (R .in-force) (λ _. refl) (R .proper) A le asked
 
 pub queries-follow-run : QueriesFollowRun
 unfolding afterQueries

@@ -205,11 +205,13 @@ pub record ShowsStep (s : List ℕ) (r : RunState) (shown : Shown) : Type 0 wher
   -- the entry that the run looks up: its signal, and its next mode
   pub signal : shown .signal ≡ signalOf s (entryIn s r)
   pub mode : shown .state .mode ≡ nextModeOf s (entryIn s r)
-  -- whatever arrives: the next queues are those of the flow rule under the signal shown, and the run's mode is the one that the state passed to
+  -- whatever arrives: the next queues are those of the flow rule under the signal shown, after the one that the run had last shown; the run's mode
+  -- is the one that the state passed to
   pub step : (p : Step) → stepped s r p ≡ record {
     scale = 10000 * commonScale r p;
-    queue = next (networkOf s) (limitOf s (shown .signal)) (commonScale r p) (queuesOver r p) (arrivalsOver r p);
+    queue = next (networkOf s) (limitOf s (r .shown) (shown .signal)) (commonScale r p) (queuesOver r p) (arrivalsOver r p);
     mode = shown .state .mode;
+    shown = shown .signal;
   }
 
 -- where an entry is in force, a state that stands there and is asked for the queues shows the next step
@@ -224,20 +226,20 @@ pub record AcceptedRun (s : List ℕ) (mode : ℕ) (queues : List Fraction) (ste
   pub first : ProperQueues s queues
   pub proper : ProperSteps s steps
   pub entry : ℕ
-  pub in-force : InForce s (start queues mode) entry
+  pub in-force : InForce s (start s queues mode) entry
 
 -- the state after an accepted load stands at moment 0 of each of its runs whose first mode is 0
 abbrev pub LoadStands : Type 0
 LoadStands =
-    (c : Controller) (s : List ℕ) (queues : List Fraction) → verdictOf s .number ≡ 0 → StandsAt s (start queues 0) (loadOf c s .state)
+    (c : Controller) (s : List ℕ) (queues : List Fraction) → verdictOf s .number ≡ 0 → StandsAt s (start s queues 0) (loadOf c s .state)
 
 -- at every moment a state that stands there and is asked for the queues shows the next step
 abbrev pub QueryAtMoment : Type 0
 QueryAtMoment =
     (s : List ℕ) (mode : ℕ) (queues : List Fraction) (steps : List Step) → AcceptedRun s mode queues steps
     → (k : ℕ) → k ≤ length steps → (c : Controller) (q : Query)
-    → StandsAt s (momentOf s (start queues mode) steps k) c → AsksFor s (momentOf s (start queues mode) steps k) q
-    → ShowsStep s (momentOf s (start queues mode) steps k) (queryOf c (q .queues) (q .scale))
+    → StandsAt s (momentOf s (start s queues mode) steps k) c → AsksFor s (momentOf s (start s queues mode) steps k) q
+    → ShowsStep s (momentOf s (start s queues mode) steps k) (queryOf c (q .queues) (q .scale))
 
 -- a query that stands past the end of a list
 abbrev pub noQuery : Query
@@ -247,6 +249,6 @@ noQuery = record { queues = []; scale = 0 }
 abbrev pub QueriesFollowRun : Type 0
 QueriesFollowRun =
     (s : List ℕ) (mode : ℕ) (queues : List Fraction) (steps : List Step) → AcceptedRun s mode queues steps
-    → (c : Controller) (qs : List Query) → StandsAt s (start queues mode) c → length qs ≤ length steps
-    → ((k : ℕ) → k < length qs → AsksFor s (momentOf s (start queues mode) steps k) (getD qs k noQuery))
-    → StandsAt s (momentOf s (start queues mode) steps (length qs)) (afterQueries c qs)
+    → (c : Controller) (qs : List Query) → StandsAt s (start s queues mode) c → length qs ≤ length steps
+    → ((k : ℕ) → k < length qs → AsksFor s (momentOf s (start s queues mode) steps k) (getD qs k noQuery))
+    → StandsAt s (momentOf s (start s queues mode) steps (length qs)) (afterQueries c qs)

@@ -1,16 +1,17 @@
 -- The record of an entry as reading tests it, and the order of the entries as reading carries it from one to the next. Assumes nothing.
 use Prim.Native.Nat.{ℕ, zero, suc, _+_, _*_, _-_, _%_, _≤_, _<_}
-use mathlib.Core.Bool.{Bool, true, false, _&&_, _||_}
+use mathlib.Core.Bool.{Bool, true, false, not, _&&_, _||_}
 use mathlib.Core.List.{List}
 use mathlib.Core.Path.{_≡_, refl, sym, _∙_}
 use native.Mathlib.Omega.{arith}
-use borrow.Author.Tests.{ltb-true, ltb-false, eqb-true, eqb-false, lt-ltb, le-ltb, le-leb, lt-leb}
+use borrow.Author.Tests.{ltb-true, ltb-false, eqb-true, eqb-false, lt-ltb, le-ltb, le-leb, lt-leb, not-true, not-false}
 use lib.Dec.{ltb, leb, eqb}
 use lib.ListN.{length}
 use Rattle.certificate.specs.declared.Report.{Report}
+use Rattle.certificate.specs.Octets.{byteAt}
 use Rattle.certificate.specs.Checks.{refusal, fine, need, orElse, marked, opened}
-use Rattle.certificate.specs.Layout.{entrySize, entryAt, cellOf, modeOf}
-use Rattle.certificate.specs.Records.{pairBelow, namesExist, entryAscends, entryFault}
+use Rattle.certificate.specs.Layout.{entrySize, entryAt, cellOf, modeOf, remembers, shownBefore}
+use Rattle.certificate.specs.Records.{pairBelow, namesExist, entryAscends, passesOn, entryFault}
 use Rattle.entry_records.specs.Keys.{IsKey, KeyBefore}
 use Rattle.certificate.proofs.Tests.{and-both, need-pass, need-chain, or-next}
 use Rattle.certificate.proofs.Says.{opened-says, opened-fine}
@@ -67,24 +68,37 @@ module _ (s : List ℕ) where
     pub entry-whole : f .number ≡ 0 → o + entrySize ≤ length s
     entry-whole z = opened-says s o mark entrySize refl .0 (rw (← opening) z) .0
 
-    -- g is what the test of its names answers, after which its order is tested
-    pub entry-result : {named up : Bool} {g r : Report} → named ≡ namesExist s e → up ≡ entryAscends s e → g ≡ orElse f (need named (refusal 9 o) fine)
-        → r ≡ orElse g (need up (refusal 22 o) fine) → r ≡ entryFault s e
+    -- g is what the test of its names answers, after which its order is tested, and h what this answers
+    pub entry-result : {named up on : Bool} {g h r : Report} → named ≡ namesExist s e → up ≡ entryAscends s e → on ≡ passesOn s e
+        → g ≡ orElse f (need named (refusal 9 o) fine) → h ≡ orElse g (need up (refusal 22 o) fine) → r ≡ orElse h (need on (refusal 23 o) fine)
+        → r ≡ entryFault s e
     unfolding entryFault
-    entry-result {named} {up} p u q w = w ∙ rw (q, need-chain f named 9 o (need up (refusal 22 o) fine) refl, opening, bears, p, u, here)
+    entry-result {named} {up} {on} {g} p u k q v w =
+        w ∙ rw (v, need-chain g up 22 o (need on (refusal 23 o) fine) refl, q, need-chain f named 9 o (need up (refusal 22 o) (need on (refusal 23 o) fine)) refl, opening, bears, p, u, k, here)
+
+  -- the test of what it passes on, as the code makes it
+  pub passes-free : (e : ℕ) {memory : Bool} → memory ≡ remembers s → not memory ≡ true → true ≡ passesOn s e
+  unfolding passesOn
+  passes-free e {memory} p q = rw (← p, not-true memory q)
+
+  pub passes-held : (e : ℕ) {memory : Bool} {o next shown own : ℕ} → memory ≡ remembers s → not memory ≡ false → o ≡ entryAt s e
+      → next ≡ byteAt s (o + 6) → shown ≡ shownBefore s next → own ≡ byteAt s (o + 5) → eqb shown own ≡ passesOn s e
+  unfolding passesOn
+  passes-held e {memory} p q here n h k = rw (← p, not-false memory q, h, n, k, here)
 
   -- an entry that is there whole, with its mark, and passes its tests
-  pub entry-fine : (e : ℕ) {o : ℕ} {mark named up : Bool} → o ≡ entryAt s e → o + entrySize ≤ length s → mark ≡ marked s o 69 78
-      → named ≡ namesExist s e → up ≡ entryAscends s e → (mark && (named && up)) ≡ true → fine ≡ entryFault s e
+  pub entry-fine : (e : ℕ) {o : ℕ} {mark named up on : Bool} → o ≡ entryAt s e → o + entrySize ≤ length s → mark ≡ marked s o 69 78
+      → named ≡ namesExist s e → up ≡ entryAscends s e → on ≡ passesOn s e → (mark && (named && up)) ≡ true → on ≡ true → fine ≡ entryFault s e
   unfolding entryFault
-  entry-fine e {o} {mark} {named} {up} here whole p q u holds =
+  entry-fine e {o} {mark} {named} {up} {on} here whole p q u d holds yes′ =
       let a = and-both mark (named && up) holds in
       let b = and-both named up (a .1) in
       let m : marked s o 69 78 ≡ true = sym p ∙ a .0 in
       let k : namesExist s e ≡ true = sym q ∙ b .0 in
       let v : entryAscends s e ≡ true = sym u ∙ b .1 in
+      let w : passesOn s e ≡ true = sym d ∙ yes′ in
       let opening : opened s o (marked s o 69 78) entrySize ≡ fine = opened-fine s o _ entrySize (omega arith) whole m in
-      sym (rw (← here, opening, need-pass (namesExist s e) (refusal 9 o) _ k, need-pass (entryAscends s e) (refusal 22 o) fine v, or-next fine fine refl))
+      sym (rw (← here, opening, need-pass (namesExist s e) (refusal 9 o) _ k, need-pass (entryAscends s e) (refusal 22 o) _ v, need-pass (passesOn s e) (refusal 23 o) fine w, or-next fine fine refl))
 
   -- an entry that passes is there whole
   pub entry-within : (e : ℕ) {f : Report} → f ≡ entryFault s e → f .number ≡ 0 → entryAt s e + entrySize ≤ length s

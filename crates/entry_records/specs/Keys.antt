@@ -2,7 +2,8 @@
 use Prim.Native.Nat.{ℕ, _+_, _*_, _-_, _≤_, _<_}
 use mathlib.Core.List.{List}
 use mathlib.Core.Path.{_≡_}
-use Rattle.certificate.specs.Layout.{cellOf, modeOf, signalsOf, modesOf, cellsOf}
+use Rattle.certificate.specs.Layout.{cellOf, modeOf, signalsOf, modesOf, cellsOf, remembers, modesStart}
+use Rattle.octets.specs.Bounds.{startBound}
 use Rattle.entry_records.specs.declared.entries.Counts.{Counts}
 
 -- key is the pair of entry e as one number, cell × 256 + mode
@@ -17,8 +18,11 @@ pub record KeyBefore (s : List ℕ) (e least : ℕ) : Type 0 where
   pub some : 0 < e → 1 ≤ least
   pub after : 0 < e → IsKey s (e - 1) (least - 1)
 
--- the counts that the entries are tested against
+-- what the entries are tested against
 pub record CountsAre (s : List ℕ) (counts : Counts) : Type 0 where
   pub signals-are : counts .signals ≡ signalsOf s
   pub modes-are : counts .modes ≡ modesOf s
   pub cells-are : counts .cells ≡ cellsOf s
+  pub memory-is : counts .memory ≡ remembers s
+  pub start-is : counts .«modes_start» ≡ modesStart s
+  pub start-most : counts .«modes_start» ≤ startBound

@@ -5,17 +5,19 @@ ghost use lib.ListN.{length};
 ghost use Rattle.certificate.specs.Octets.{byteAt, u16At};
 ghost use Rattle.certificate.specs.Checks.{fine, firstFrom, firstBad};
 ghost use Rattle.certificate.specs.Layout.{maxCells, entriesStart, entryAt, entrySize, cellOf, modeOf, signalOf, nextModeOf, rankOf};
-ghost use Rattle.certificate.specs.Records.{namesExist, entryFault};
+ghost use Rattle.certificate.specs.Records.{namesExist, passesOn, entryFault};
 ghost use Rattle.entry_records.specs.Keys.{CountsAre, IsKey, KeyBefore};
 ghost use Rattle.octets.specs.Bounds.{entryBound, startBound};
 use certificate::Report;
 use certificate::limits;
 
-// How many signals, modes and cells there are.
+// How many signals, modes and cells there are, whether modes remember the signal shown before, and where the records of modes begin.
 pub struct Counts {
     pub signals: usize,
     pub modes: usize,
     pub cells: usize,
+    pub memory: bool,
+    pub modes_start: usize,
 }
 
 // Where the record of entry e stands.
@@ -95,6 +97,18 @@ fn names_exist(s: &[u8], o: usize, counts: Counts, e: usize, key: usize) -> bool
         & (octets::byte_within(s, o + 6) < counts.modes)
 }
 
+// Where modes remember, the next mode of the entry at o, which is there whole, remembers its signal.
+fn passes_on(s: &[u8], o: usize, counts: Counts, e: usize) -> bool
+    requires { ⌜ (o ≤ entryBound) × (o ≡ entryAt (now s) e) × (o + entrySize ≤ length (now s)) × CountsAre (now s) counts ⌝ }
+    ensures { λ r. ⌜ r ≡ passesOn (now (s .entry)) e ⌝ }
+{
+    if !counts.memory {
+        return true;
+    }
+    let next = octets::byte_within(s, o + 6);
+    mode_records::shown_before(s, counts.modes_start, next) == octets::byte_within(s, o + 5)
+}
+
 // A quick yes for the record at o: it is there whole, its mark is right, and its tests pass. One above its key then, else 0.
 // `least` is one above the key of the entry before it, and 0 for the first entry.
 fn quick(s: &[u8], o: usize, counts: Counts, e: usize, least: usize) -> usize
@@ -107,7 +121,9 @@ fn quick(s: &[u8], o: usize, counts: Counts, e: usize, least: usize) -> usize
     let key = key_at(s, o, e);
     // joined from the right for speed: from the left, the order would be tested before the mark
     if octets::marked_within(s, o, 69, 78) & (names_exist(s, o, counts, e, key) & (least <= key)) {
-        return key + 1;
+        if passes_on(s, o, counts, e) {
+            return key + 1;
+        }
     }
     0
 }
@@ -123,8 +139,10 @@ fn check_entry(s: &[u8], o: usize, counts: Counts, e: usize, least: usize) -> Re
     }
     let key = key_at(s, o, e);
     let exist = names_exist(s, o, counts, e, key);
+    let on = passes_on(s, o, counts, e);
     let named = octets::record_result(opening, exist, 9, o);
-    octets::record_result(named, least <= key, 22, o)
+    let ordered = octets::record_result(named, least <= key, 22, o);
+    octets::record_result(ordered, on, 23, o)
 }
 
 // The records from entry `from` on.

@@ -1,2 +1,2 @@
-// Entries: the fields of their records and their tests (refusals 9 and 22).
+// Entries: the fields of their records and their tests (refusals 9, 22 and 23).
 pub mod entries;

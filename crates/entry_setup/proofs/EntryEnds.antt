@@ -1,18 +1,17 @@
 -- The edges of an entry's cell, its limits, and the ends of its image before arrivals. Assumes nothing.
 use Prim.Native.Nat.{ℕ, _+_, _*_, _≤_, _<_}
 use mathlib.Core.List.{List}
-use mathlib.Core.Path.{_≡_, refl, _∙_}
+use mathlib.Core.Bool.{Bool, true, not}
+use mathlib.Core.Path.{_≡_, refl, sym, _∙_}
 use native.Mathlib.Omega.{arith}
 use lib.ListN.{getD}
 use Rattle.reading.specs.declared.Layout.{Layout}
-use Rattle.certificate.specs.Octets.{bitOf}
-use Rattle.certificate.specs.Loops.{pick}
 use Rattle.certificate.specs.Facts.{Readable}
 use Rattle.reading.specs.ReadingResults.{LaidOut}
 use Rattle.certificate.proofs.Loops.{sum-same}
 use Rattle.certificate.proofs.Size.{cells-in-range}
-use Rattle.certificate.specs.Layout.{linksOf, turnsOf, flowOf, intervalsOf, cellsOf, greenByteOf, entriesOf, cellOf, signalOf}
-use Rattle.network.specs.Network.{Network, networkOf}
+use Rattle.certificate.specs.Layout.{linksOf, turnsOf, intervalsOf, cellsOf, remembers, greenByteOf, shownBefore, entriesOf, cellOf, modeOf, signalOf}
+use Rattle.network.specs.Network.{Network, networkOf, entryLimit}
 use Rattle.network.specs.Flow.{sent, passedIn, gross}
 use Rattle.network.specs.Image.{beside, lowCorner, highCorner}
 use Rattle.network.specs.Sound.{Joined}
@@ -21,13 +20,15 @@ use Rattle.screening.specs.NetworkParts.{NetworkAt}
 use Rattle.supply.specs.Supply.{WithinCaps, at}
 use Rattle.supply.proofs.LeastNumbers.{least-same}
 use Rattle.images.specs.Ends.{LimitsFit, EndsBefore}
+use Rattle.network.proofs.Limiting.{plain-limits}
 use Rattle.network.proofs.Screening.{joins-of, entry-sound}
 use Rattle.grid.specs.Cells.{intervalIn}
 use Rattle.grid.proofs.Numbers.{is-choice}
 use Rattle.grid.proofs.Edges.{upper-most, cell-lower-below-upper}
 use Rattle.octets.specs.Tables.{Holds}
+use Rattle.octets.proofs.Cases.{not-yes}
 use Rattle.cell_tables.specs.Tables.{DigitsOf}
-use Rattle.entry_setup.specs.Tables.{CellEdges, EntryLimits, EntryEnds}
+use Rattle.entry_setup.specs.Tables.{CellEdges, limitBy, EntryLimits, EntryEnds}
 
 -- what a link sends, and so the next queue of a link, depends on the limits and the queues of the network's links alone
 module _ (N : Network) (J : Joined N) (limit other x y : ℕ → ℕ) (limits : (k : ℕ) → k < N .links → limit k ≡ other k) (queues : (k : ℕ) → k < N .links → x k ≡ y k) where
@@ -54,10 +55,24 @@ high-same : (s : List ℕ) (l : ℕ) (a b x y : ℕ → ℕ) (k : ℕ) → a k �
 unfolding highCorner
 high-same s l a b x y k p q = rw (p, q)
 
+-- the bytes by which the code finds them: the entry's own, and that of the signal shown before, for which in HD any does
+pub byte-is : (s : List ℕ) (e g byte : ℕ) → g ≡ signalOf s e → byte ≡ greenByteOf s g → byte ≡ greenByteOf s (signalOf s e)
+byte-is s e g byte eg eb = rw (← eg) eb
+
+pub own-byte : (s : List ℕ) (e byte : ℕ) (memory : Bool) → memory ≡ remembers s → not memory ≡ true → byte ≡ greenByteOf s (signalOf s e)
+    → (l : ℕ) → limitBy s byte byte l ≡ entryLimit s e l
+own-byte s e byte memory m none own l =
+    let plain = plain-limits s (not-yes memory (remembers s) m none) in
+    rw own (plain (signalOf s e) (signalOf s e) l ∙ sym (plain (shownBefore s (modeOf s e)) (signalOf s e) l))
+
+pub shown-byte : (s : List ℕ) (e byte mode shown before : ℕ) → byte ≡ greenByteOf s (signalOf s e) → mode ≡ modeOf s e → shown ≡ shownBefore s mode
+    → before ≡ greenByteOf s shown → (l : ℕ) → limitBy s before byte l ≡ entryLimit s e l
+shown-byte s e byte mode shown before own m sh b l = rw (b, sh, m, own) refl
+
 -- the limits that the code finds are those of the entry, and small
-pub limits-are : (s limits : List ℕ) (e g byte links : ℕ) → g ≡ signalOf s e → byte ≡ greenByteOf s g → links ≡ linksOf s
-    → Holds links (λ l. pick (bitOf byte l) (flowOf s l) 0) limits → EntryLimits s e limits
-limits-are s limits e g byte links eg eb n found l hl = found l (rw n hl) ∙ rw (eb, eg) refl
+pub limits-are : (s limits : List ℕ) (e before byte links : ℕ) → ((l : ℕ) → limitBy s before byte l ≡ entryLimit s e l) → links ≡ linksOf s
+    → Holds links (limitBy s before byte) limits → EntryLimits s e limits
+limits-are s limits e before byte links same n found l hl = found l (rw n hl) ∙ same l
 
 pub limits-fit : (s limits : List ℕ) → Screened s → (e : ℕ) → e < entriesOf s → EntryLimits s e limits → LimitsFit s limits
 limits-fit s limits S e he L = record { most = λ l hl. omega (arith, L l hl, entry-sound s S e he .most l hl, S .readable .link l hl) }

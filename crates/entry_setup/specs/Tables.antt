@@ -4,9 +4,9 @@ use mathlib.Core.List.{List}
 use mathlib.Core.Path.{_≡_}
 use lib.Dec.{eqb}
 use lib.ListN.{getD}
-use Rattle.certificate.specs.Octets.{u16At}
+use Rattle.certificate.specs.Octets.{u16At, bitOf}
 use Rattle.certificate.specs.Loops.{pick}
-use Rattle.certificate.specs.Layout.{maxLinks, maxModes, maxEntries, maxBoxes, maxCells, linksOf, modesOf, capOf, cellsOf, boxesOf, arrivalAt, lowOf, highOf, entriesOf, cellOf, nextModeOf, rankOf}
+use Rattle.certificate.specs.Layout.{maxLinks, maxModes, maxEntries, maxBoxes, maxCells, linksOf, modesOf, capOf, flowOf, startFlowOf, cellsOf, boxesOf, arrivalAt, lowOf, highOf, entriesOf, cellOf, nextModeOf, rankOf}
 use Rattle.network.specs.Network.{networkOf, entryLimit}
 use Rattle.network.specs.Flow.{gross}
 use Rattle.network.specs.Image.{lowCorner, highCorner}
@@ -50,6 +50,10 @@ pub record TablesOf (s : List ℕ) (tables : LinkTables) (edges arrivals : List 
 pub record CellEdges (s : List ℕ) (c : ℕ) (lower upper : List ℕ) : Type 0 where
   pub lower-is : (l : ℕ) → l < linksOf s → getD lower l 0 ≡ lowerOf s c l
   pub upper-is : (l : ℕ) → l < linksOf s → getD upper l 0 ≡ upperOf s c l
+
+-- the most that link l may send, by the bytes of the signal shown before and of the one shown (network `limitOf` has the signals)
+abbrev pub limitBy : List ℕ → ℕ → ℕ → ℕ → ℕ
+limitBy s before byte l = pick (bitOf byte l) (pick (bitOf before l) (flowOf s l) (startFlowOf s l)) 0
 
 -- the most that each link may send under entry e
 abbrev pub EntryLimits : List ℕ → ℕ → List ℕ → Type 0

@@ -2,17 +2,16 @@
 ghost use mathlib.Core.Path.{_≡_};
 ghost use Prim.Native.Nat.{ℕ, _+_, _<_, _≤_};
 ghost use lib.ListN.{length};
-ghost use Rattle.certificate.specs.Octets.{bitOf};
-ghost use Rattle.certificate.specs.Loops.{pick};
 ghost use Rattle.certificate.specs.Facts.{Readable};
-ghost use Rattle.certificate.specs.Layout.{maxLinks, linkAt, linkSize, linksOf, flowOf, intervalsOf, cellsOf, cellOf, entriesOf};
+ghost use Rattle.certificate.specs.Layout.{maxLinks, linkAt, linkSize, linksOf, greenByteOf, intervalsOf, cellsOf, cellOf, signalOf, entriesOf};
 ghost use Rattle.grid.specs.Cells.{intervalIn};
 ghost use Rattle.reading.specs.ReadingResults.{LaidOut};
 ghost use Rattle.network.specs.Laws.{Screened};
 ghost use Rattle.octets.specs.Tables.{Holds};
 ghost use Rattle.supply.specs.Supply.{FirstTurns};
 ghost use Rattle.cell_tables.specs.Tables.{EdgesOf, DigitsOf};
-ghost use Rattle.entry_setup.specs.Tables.{CellEdges, EntryLimits, EntryEnds, boundFor, IsTask};
+ghost use Rattle.network.specs.Network.{entryLimit};
+ghost use Rattle.entry_setup.specs.Tables.{CellEdges, limitBy, EntryLimits, EntryEnds, boundFor, IsTask};
 use crate::Task;
 use cell_tables::digits;
 use cell_tables::tables;
@@ -90,27 +89,45 @@ pub fn cell_edges(
     Edges { lower, upper }
 }
 
-// The most that link l may send: its flow where it is green by a signal's byte, 0 where it is red.
-fn limit_under(s: &[u8], byte: usize, l: usize) -> usize
-    requires { ⌜ (l < maxLinks) × (linkAt l + linkSize ≤ length (now s)) ⌝ }
-    ensures { λ r. ⌜ r ≡ pick (bitOf byte l) (flowOf (now (s .entry)) l) 0 ⌝ }
+// The most that link l may send, by the bytes of the signal shown before and of the one shown: 0 where it is red, its flow where it is and
+// was green, its start flow where it was red.
+fn limit_under(s: &[u8], before: usize, byte: usize, l: usize) -> usize
+    requires { ⌜ (l < maxLinks) × (linkAt (now s) l + linkSize (now s) ≤ length (now s)) ⌝ }
+    ensures { λ r. ⌜ r ≡ limitBy (now (s .entry)) before byte l ⌝ }
 {
-    if signals::is_green(byte, l) {
+    if !signals::is_green(byte, l) {
+        return 0;
+    }
+    if signals::is_green(before, l) {
         return links::flow_within(s, l);
     }
-    0
+    links::start_flow_of(s, l)
 }
 
 // The same of each link.
-fn limits_under(s: &[u8], links: usize, byte: usize) -> [usize; limits::MAX_LINKS]
-    requires { ⌜ (links ≤ maxLinks) × ((l : ℕ) → l < links → linkAt l + linkSize ≤ length (now s)) ⌝ }
-    ensures { λ r. ⌜ Holds links (λ l. pick (bitOf byte l) (flowOf (now (s .entry)) l) 0) r ⌝ }
+fn limits_under(s: &[u8], links: usize, before: usize, byte: usize) -> [usize; limits::MAX_LINKS]
+    requires { ⌜ (links ≤ maxLinks) × ((l : ℕ) → l < links → linkAt (now s) l + linkSize (now s) ≤ length (now s)) ⌝ }
+    ensures { λ r. ⌜ Holds links (limitBy (now (s .entry)) before byte) r ⌝ }
 {
     let mut limits = [0usize; limits::MAX_LINKS];
     for l in 0..links {
-        limits[l] = limit_under(s, byte, l);
+        limits[l] = limit_under(s, before, byte, l);
     }
     limits
+}
+
+// The byte of the signal shown before entry e, whose own signal has that byte: by the memory of its mode. HD has no memory, and no start flow
+// either, so that the entry's own byte does.
+fn byte_before(s: &[u8], layout: Layout, e: usize, byte: usize) -> usize
+    requires { ⌜ Readable (now s) × LaidOut (now s) layout × (e < entriesOf (now s)) × (byte ≡ greenByteOf (now s) (signalOf (now s) e)) ⌝ }
+    ensures { λ r. ⌜ ((l : ℕ) → limitBy (now (s .entry)) r byte l ≡ entryLimit (now (s .entry)) e l) ⌝ }
+{
+    if !header_record::has_memory(s) {
+        return byte;
+    }
+    let mode = entries::mode_of(s, layout.entries_start, e);
+    let shown = mode_records::shown_before(s, layout.modes_start, mode);
+    signals::green_byte_of(s, layout.signals_start, shown)
 }
 
 // The most that each link may send under entry e.
@@ -120,7 +137,7 @@ fn entry_limits(s: &[u8], layout: Layout, e: usize) -> [usize; limits::MAX_LINKS
 {
     let g = entries::signal_of(s, layout.entries_start, e);
     let byte = signals::green_byte_of(s, layout.signals_start, g);
-    limits_under(s, layout.links, byte)
+    limits_under(s, layout.links, byte_before(s, layout, e, byte), byte)
 }
 
 // The ends of entry e's image before arrivals, given the edges of its cell.

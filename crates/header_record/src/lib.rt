@@ -1,10 +1,29 @@
-// HD: how many links, turns, signals, modes, arrival boxes and entries there are, and its tests (refusal 3).
+// HD or H2: the kind, how many links, turns, signals, modes, arrival boxes and entries there are, and its tests (refusal 3).
 ghost use mathlib.Core.Path.{_≡_};
-ghost use Prim.Native.Nat.{_<_};
-ghost use Rattle.certificate.specs.Layout.{linksOf, turnsOf, signalsOf, modesOf, boxesOf, entriesOf};
-ghost use Rattle.certificate.specs.Records.{headerOk, headerFault};
+ghost use Prim.Native.Nat.{_<_, _≤_};
+ghost use lib.ListN.{length};
+ghost use Rattle.certificate.specs.Layout.{remembers, linksOf, turnsOf, signalsOf, modesOf, boxesOf, entriesOf};
+ghost use Rattle.certificate.specs.Records.{headerOk, headerMarked, headerFault};
 use certificate::Report;
 use certificate::limits;
+
+// The second byte of the mark H2.
+const START_FLOW_KIND: usize = 50;
+
+// Whether the kind is H2: links have start flows, and modes remember the signal shown before.
+pub fn has_memory(s: &[u8]) -> bool
+    ensures { λ r. ⌜ r ≡ remembers (now (s .entry)) ⌝ }
+{
+    octets::byte_at(s, 1) == START_FLOW_KIND
+}
+
+// The same where there are two bytes at least: no test.
+pub fn has_memory_within(s: &[u8]) -> bool
+    requires { ⌜ 2 ≤ length (now s) ⌝ }
+    ensures { λ r. ⌜ r ≡ remembers (now (s .entry)) ⌝ }
+{
+    octets::byte_within(s, 1) == START_FLOW_KIND
+}
 
 pub fn links_of(s: &[u8]) -> usize
     ensures { λ r. ⌜ (r ≡ linksOf (now (s .entry))) × (r < 256) ⌝ }
@@ -64,9 +83,16 @@ fn counts_ok(s: &[u8]) -> bool
         & (entries <= limits::MAX_ENTRIES)
 }
 
+// The mark is HD or H2.
+fn header_marked(s: &[u8]) -> bool
+    ensures { λ r. ⌜ r ≡ headerMarked (now (s .entry)) ⌝ }
+{
+    octets::marked_as(s, 0, 72, 68) | octets::marked_as(s, 0, 72, START_FLOW_KIND)
+}
+
 pub fn check_header(s: &[u8]) -> Report
     ensures { λ r. ⌜ r ≡ headerFault (now (s .entry)) ⌝ }
 {
-    let opening = octets::check_opened(s, 0, octets::marked_as(s, 0, 72, 68), limits::HEADER_SIZE);
+    let opening = octets::check_opened(s, 0, header_marked(s), limits::HEADER_SIZE);
     octets::record_result(opening, counts_ok(s), 3, 0)
 }

@@ -5,4 +5,5 @@ pub mod Monotone
 pub mod Scale
 pub mod Fits
 pub mod SmallestBox
+pub mod Limiting
 pub mod Screening

@@ -1,13 +1,13 @@
 -- A certificate that passes the tests before 12 is readable, meets conditions 10 and 11, and is sound under each signal. Assumes nothing.
 use Prim.Native.Nat.{ℕ, _*_, _-_, _≤_, _<_}
 use mathlib.Core.List.{List}
-use mathlib.Core.Bool.{Bool, true, false}
+use mathlib.Core.Bool.{Bool}
 use mathlib.Core.Path.{_≡_, sym, ap}
 use mathlib.Core.Logic.{⊎-elim, _↔_}
 use native.Mathlib.Omega.{arith}
 use borrow.Author.Tests.{leb-true, le-leb}
 use Rattle.certificate.specs.Loops.{pick}
-use Rattle.certificate.specs.Layout.{linksOf, turnsOf, signalsOf, capOf, flowOf, fromOf, toOf, pullOf, signalOf}
+use Rattle.certificate.specs.Layout.{linksOf, turnsOf, signalsOf, capOf, flowOf, startFlowOf, fromOf, toOf, pullOf, shownBefore, modeOf, signalOf}
 use Rattle.certificate.specs.Reading.{readingOf}
 use Rattle.certificate.specs.Facts.{Readable}
 use Rattle.certificate.proofs.Plain.{readable-of, of-readable}
@@ -16,6 +16,7 @@ use Rattle.network.specs.Network.{networkOf, isGreen}
 use Rattle.network.specs.Conditions.{pullSum, pullFault, signalPullsFault, pullsFault, roomOk, roomFault, roomsFault, screeningOf}
 use Rattle.network.specs.Sound.{Joined}
 use Rattle.network.specs.Laws.{Screened, ScreeningIsPlain, ScreenedIsSound, EntryIsSound}
+use Rattle.network.proofs.Limiting.{limit-most}
 
 -- pairs (from, to) ascend, so none stands twice
 apart : (s : List ℕ) → Readable s → (t u : ℕ) → t < u → u < turnsOf s → fromOf s t ≡ fromOf s u → toOf s t ≡ toOf s u → ⊥
@@ -38,21 +39,17 @@ joins-of s R =
     }
 
 pub sound-of : ScreenedIsSound
-sound-of s C g hg =
+sound-of s C h g hg =
     record {
       joins = joins-of s (C .readable);
       pulls = λ l hl. C .pulls g l hg hl;
       room = C .room;
-      red = λ l hl e. ap (λ (q : Bool). pick q (flowOf s l) 0) e;
-      most = λ l hl. go (isGreen s g l) (flowOf s l);
+      red = λ l hl e. ap (λ (q : Bool). pick q (pick (isGreen s h l) (flowOf s l) (startFlowOf s l)) 0) e;
+      most = λ l hl. limit-most s (C .readable) h g l hl;
     }
-  where
-    go : (q : Bool) (m : ℕ) → pick q m 0 ≤ m
-    go true m = omega arith
-    go false m = omega arith
 
 pub entry-sound : EntryIsSound
-entry-sound s C e he = sound-of s C (signalOf s e) (C .readable .entry e he .signal)
+entry-sound s C e he = sound-of s C (shownBefore s (modeOf s e)) (signalOf s e) (C .readable .entry e he .signal)
 
 -- condition 10, tested for every signal and link
 abbrev pub PullsFit : List ℕ → Type 0

@@ -10,7 +10,7 @@ unfoldable pub leastTo : ℕ → (ℕ → Bool) → (ℕ → ℕ) → ℕ → �
 leastTo zero p f b = b
 leastTo (suc n) p f b = pick (p n) (min (f n) (leastTo n p f b)) (leastTo n p f b)
 
--- N is the network, limit the most that each link may send (0 for a red link, its flow for a green one), D the scale
+-- N is the network, limit the most that each link may send (network `limitOf`: 0 for a red link, its flow or start flow for a green one), D the scale
 module _ (N : Network) (limit : ℕ → ℕ) (D : ℕ) where
   -- what the link that turn t leads into has room for, by the turn's pull: pull × (cap − queue) / 100; over 100 × D
   abbrev pub supply : (ℕ → ℕ) → ℕ → ℕ

@@ -1,11 +1,12 @@
 -- What is proved of the flow rule and the image of a box (proofs/ of this crate). Statements only.
 use Prim.Native.Nat.{ℕ, _*_, _-_, _≤_, _<_}
 use mathlib.Core.List.{List}
-use mathlib.Core.Bool.{Bool, true}
+use mathlib.Core.Bool.{Bool, true, false}
 use mathlib.Core.Path.{_≡_}
 use mathlib.Core.Logic.{_↔_}
 use Rattle.certificate.specs.Facts.{Readable}
-use Rattle.certificate.specs.Layout.{maxPullSum, linksOf, turnsOf, signalsOf, capOf, flowOf, fromOf, toOf, pullOf, entriesOf, signalOf}
+use Rattle.certificate.specs.Loops.{pick}
+use Rattle.certificate.specs.Layout.{remembers, maxPullSum, linksOf, turnsOf, signalsOf, capOf, flowOf, startFlowOf, fromOf, toOf, pullOf, entriesOf, signalOf}
 use Rattle.network.specs.Network.{Network, networkOf, isGreen, limitOf, entryLimit}
 use Rattle.network.specs.Flow.{gross, next}
 use Rattle.network.specs.Conditions.{pullSum, screeningOf}
@@ -97,9 +98,22 @@ pub record Screened (s : List ℕ) : Type 0 where
 abbrev pub ScreeningIsPlain : Type 0
 ScreeningIsPlain = (s : List ℕ) → (screeningOf s .number ≡ 0) ↔ Screened s
 
+-- whatever was shown before
 abbrev pub ScreenedIsSound : Type 0
-ScreenedIsSound = (s : List ℕ) → Screened s → (g : ℕ) → g < signalsOf s → Sound (networkOf s) (isGreen s g) (limitOf s g)
+ScreenedIsSound = (s : List ℕ) → Screened s → (h g : ℕ) → g < signalsOf s → Sound (networkOf s) (isGreen s g) (limitOf s h g)
 
 -- hence under each entry
 abbrev pub EntryIsSound : Type 0
 EntryIsSound = (s : List ℕ) → Screened s → (e : ℕ) → e < entriesOf s → Sound (networkOf s) (isGreen s (signalOf s e)) (entryLimit s e)
+
+-- in HD a green link may send its flow and a red one nothing, whatever was shown before
+abbrev pub PlainLimits : Type 0
+PlainLimits = (s : List ℕ) → remembers s ≡ false → (h g l : ℕ) → limitOf s h g l ≡ pick (isGreen s g l) (flowOf s l) 0
+
+-- a link that is green in one step after another may send its flow in the second
+abbrev pub StaysGreen : Type 0
+StaysGreen = (s : List ℕ) (h g l : ℕ) → isGreen s h l ≡ true → isGreen s g l ≡ true → limitOf s h g l ≡ flowOf s l
+
+-- one that turned green sends at most its start flow
+abbrev pub TurnsGreen : Type 0
+TurnsGreen = (s : List ℕ) (h g l : ℕ) → isGreen s h l ≡ false → isGreen s g l ≡ true → limitOf s h g l ≡ startFlowOf s l

@@ -4,7 +4,7 @@ use mathlib.Core.List.{List}
 use mathlib.Core.Bool.{Bool}
 use Rattle.certificate.specs.Octets.{bitOf}
 use Rattle.certificate.specs.Loops.{pick}
-use Rattle.certificate.specs.Layout.{linksOf, turnsOf, tailOf, headOf, capOf, flowOf, fromOf, toOf, shareOf, pullOf, greenByteOf, signalOf}
+use Rattle.certificate.specs.Layout.{linksOf, turnsOf, tailOf, headOf, capOf, flowOf, startFlowOf, fromOf, toOf, shareOf, pullOf, greenByteOf, shownBefore, modeOf, signalOf}
 
 -- links lead from their tail junction to their head junction; a turn t leads from link `from t` to link `to t`
 pub record Network : Type 0 where
@@ -39,10 +39,11 @@ networkOf s =
 abbrev pub isGreen : List ℕ → ℕ → ℕ → Bool
 isGreen s g l = bitOf (greenByteOf s g) l
 
--- the most that link l may send in a step under signal g: its flow where it is green, 0 where it is red
-abbrev pub limitOf : List ℕ → ℕ → ℕ → ℕ
-limitOf s g l = pick (isGreen s g l) (flowOf s l) 0
+-- the most that link l may send in a step under signal g, where signal h was shown before: 0 where it is red; where it is green its flow, and its
+-- start flow if it was red (document 02, 5/14). In HD the start flow is the flow, so nothing depends on h.
+abbrev pub limitOf : List ℕ → ℕ → ℕ → ℕ → ℕ
+limitOf s h g l = pick (isGreen s g l) (pick (isGreen s h l) (flowOf s l) (startFlowOf s l)) 0
 
--- the most that each link may send in a step under entry e: its limit under the entry's signal
+-- the most that each link may send in a step under entry e: its limit under the entry's signal, after the signal that the entry's mode remembers
 abbrev pub entryLimit : List ℕ → ℕ → ℕ → ℕ
-entryLimit s e = limitOf s (signalOf s e)
+entryLimit s e = limitOf s (shownBefore s (modeOf s e)) (signalOf s e)

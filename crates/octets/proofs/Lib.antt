@@ -1,5 +1,6 @@
--- Tests by cases, copying, tables filled entry by entry, and products that fit.
+-- Tests by cases, copying, tables filled entry by entry, products that fit, and values picked by a test.
 pub mod Cases
 pub mod Copying
 pub mod FilledTables
 pub mod Fitting
+pub mod Picking

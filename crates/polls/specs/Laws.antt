@@ -147,8 +147,8 @@ abbrev pub PollAtMoment : Type 0
 PollAtMoment =
     (s : List ℕ) (mode : ℕ) (queues : List Fraction) (steps : List Step) → AcceptedRun s mode queues steps
     → (k : ℕ) → k ≤ length steps → (c : Controller) (p : List ℕ)
-    → StandsAt s (momentOf s (start queues mode) steps k) c → ReadsQueues s (momentOf s (start queues mode) steps k) p
-    → ShowsStep s (momentOf s (start queues mode) steps k) (pollOf c p)
+    → StandsAt s (momentOf s (start s queues mode) steps k) c → ReadsQueues s (momentOf s (start s queues mode) steps k) p
+    → ShowsStep s (momentOf s (start s queues mode) steps k) (pollOf c p)
 
 -- a query or a poll for the queues of r
 abbrev pub CallAsks : List ℕ → RunState → Call → Type 0
@@ -163,6 +163,6 @@ noCall = poll []
 abbrev pub CallsFollowRun : Type 0
 CallsFollowRun =
     (s : List ℕ) (mode : ℕ) (queues : List Fraction) (steps : List Step) → AcceptedRun s mode queues steps
-    → (c : Controller) (ks : List Call) → StandsAt s (start queues mode) c → length ks ≤ length steps
-    → ((k : ℕ) → k < length ks → CallAsks s (momentOf s (start queues mode) steps k) (getD ks k noCall))
-    → StandsAt s (momentOf s (start queues mode) steps (length ks)) (afterCalls c ks)
+    → (c : Controller) (ks : List Call) → StandsAt s (start s queues mode) c → length ks ≤ length steps
+    → ((k : ℕ) → k < length ks → CallAsks s (momentOf s (start s queues mode) steps k) (getD ks k noCall))
+    → StandsAt s (momentOf s (start s queues mode) steps (length ks)) (afterCalls c ks)

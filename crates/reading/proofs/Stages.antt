@@ -12,9 +12,9 @@ use Rattle.reading.specs.declared.Reading.{Reading}
 use Rattle.reading.specs.declared.Starts.{Starts}
 use Rattle.certificate.specs.Loops.{pick}
 use Rattle.certificate.specs.Checks.{orElse}
-use Rattle.certificate.specs.Layout.{maxLinks, arrivalSize, linksOf, turnsOf, signalsOf, modesOf, boxesOf, entriesOf, gridAt, arrivalsStart, entriesStart}
+use Rattle.certificate.specs.Layout.{maxLinks, turnSize, signalSize, modeSize, arrivalSize, linksOf, turnsOf, signalsOf, modesOf, boxesOf, entriesOf, linkAt, turnsStart, signalsStart, modeRecordsOf, modesStart, gridStart, gridAt, arrivalsStart, entriesStart}
 use Rattle.certificate.specs.Records.{headerFault, endFault}
-use Rattle.certificate.specs.Reading.{linksFault, turnsFault, signalsFault, gridsFault, readingOf}
+use Rattle.certificate.specs.Reading.{linksFault, turnsFault, signalsFault, modesFault, gridsFault, readingOf}
 use Rattle.certificate.specs.Facts.{HeaderFacts}
 use Rattle.box_records.specs.GridRecords.{GridsLaid}
 use Rattle.reading.specs.ReadingResults.{StartsOf, gridPlace, networkFault, tailFault, backFault, LaidOut, noLayout, ReadAs}
@@ -42,10 +42,29 @@ module _ (s : List ℕ) where
   -- reading is HD, then the network, then all from GR on
   pub in-stages : orElse (headerFault s) (orElse (networkFault s) (backFault s)) ≡ readingOf s
   unfolding readingOf networkFault backFault tailFault
-  in-stages = ap (orElse (headerFault s)) (in-groups (linksFault s) _ _ ∙ ap (orElse (linksFault s)) (in-groups (turnsFault s) _ _))
+  in-stages = ap (orElse (headerFault s)) (in-groups (linksFault s) _ _ ∙ ap (orElse (linksFault s)) (in-groups (turnsFault s) _ _ ∙ ap (orElse (turnsFault s)) (in-groups (signalsFault s) _ _)))
 
   pub header-facts : {f : Report} → f ≡ headerFault s → f .number ≡ 0 → HeaderFacts s
   header-facts e z = header-says s .0 (rw e at z) .1
+
+  -- where the records begin, from the counts of HD
+  pub starts-are : {links turns signals modes records first second third fourth : ℕ}
+      → links ≡ linksOf s → turns ≡ turnsOf s → turns < 256 → signals ≡ signalsOf s → signals < 256 → modes < 256 → records ≡ modeRecordsOf s → records ≤ modes
+      → first ≡ linkAt s links → first ≤ 4000 → second ≡ first + turnSize * turns → third ≡ second + signalSize * signals → fourth ≡ third + modeSize * records
+      → StartsOf s (record { turns = first; signals = second; modes = third; grids = fourth })
+  unfolding turnsStart signalsStart modesStart gridStart
+  starts-are el et lt es ls lm er few p1 far p2 p3 p4 =
+      let place = p1 ∙ ap (linkAt s) el in
+      record {
+        turns-is = place;
+        turns-most = omega arith;
+        signals-is = omega arith;
+        signals-most = omega arith;
+        modes-is = omega arith;
+        modes-most = omega arith;
+        grids-is = omega arith;
+        grids-most = omega arith;
+      }
 
   -- the places of the grid records, as a table
   places-are : {places : List ℕ} {stop cells : ℕ} → GridsLaid s (linksOf s) places stop cells → places ≡ tableOf maxLinks (gridPlace s)
@@ -70,6 +89,7 @@ module _ (s : List ℕ) where
         entries = entries;
         «turns_start» = starts .turns;
         «signals_start» = starts .signals;
+        «modes_start» = starts .modes;
         grids = places;
         «arrivals_start» = stop;
         «entries_start» = first-entry;
@@ -80,7 +100,7 @@ module _ (s : List ℕ) where
       let few : links ≤ 8 = omega (arith, H .links-most) in
       let far : arrivalSize links * boxes ≤ 8704 = box-offset links boxes few (omega (arith, H .boxes-most)) in
       record {
-        is = rw (ef, el, et, es, em, eb, ee, S .turns-is, S .signals-is, L .end-is, L .cells-are, places-are L);
+        is = rw (ef, el, et, es, em, eb, ee, S .turns-is, S .signals-is, S .modes-is, L .end-is, L .cells-are, places-are L);
         links-are = el;
         links-least = omega (arith, H .links-least);
         links-most = few;
@@ -102,6 +122,8 @@ module _ (s : List ℕ) where
         turns-start-most = omega (arith, S .turns-most);
         signals-start-is = S .signals-is;
         signals-start-most = omega (arith, S .signals-most);
+        modes-start-is = S .modes-is;
+        modes-start-most = omega (arith, S .modes-most);
         grid-is = L .place;
         grid-most = λ l lt. omega (arith, grid-end s l lt, L .end-is, L .end-most);
         arrivals-start-is = L .end-is;

@@ -10,18 +10,20 @@ use Rattle.reading.specs.declared.Reading.{Reading}
 use Rattle.reading.specs.declared.Starts.{Starts}
 use Rattle.certificate.specs.Loops.{pick}
 use Rattle.certificate.specs.Checks.{orElse}
-use Rattle.certificate.specs.Layout.{maxLinks, maxTurns, maxSignals, maxModes, maxBoxes, maxEntries, maxCells, linksOf, turnsOf, signalsOf, modesOf, boxesOf, entriesOf, turnsStart, signalsStart, gridStart, gridAt, cellsOf, arrivalsStart, entriesStart}
+use Rattle.certificate.specs.Layout.{maxLinks, maxTurns, maxSignals, maxModes, maxBoxes, maxEntries, maxCells, linksOf, turnsOf, signalsOf, modesOf, boxesOf, entriesOf, turnsStart, signalsStart, modesStart, gridStart, gridAt, cellsOf, arrivalsStart, entriesStart}
 use Rattle.certificate.specs.Records.{endFault}
-use Rattle.certificate.specs.Reading.{linksFault, turnsFault, signalsFault, gridsFault, arrivalsFault, entriesFault}
+use Rattle.certificate.specs.Reading.{linksFault, turnsFault, signalsFault, modesFault, gridsFault, arrivalsFault, entriesFault}
 use Rattle.octets.specs.Tables.{tableOf}
 use Rattle.octets.specs.Bounds.{gridsBound, startBound}
 
--- where the records of turns, signals and grids begin
+-- where the records of turns, signals, modes and grids begin
 pub record StartsOf (s : List ℕ) (starts : Starts) : Type 0 where
   pub turns-is : starts .turns ≡ turnsStart s
   pub turns-most : starts .turns ≤ gridsBound
   pub signals-is : starts .signals ≡ signalsStart s
   pub signals-most : starts .signals ≤ gridsBound
+  pub modes-is : starts .modes ≡ modesStart s
+  pub modes-most : starts .modes ≤ gridsBound
   pub grids-is : starts .grids ≡ gridStart s
   pub grids-most : starts .grids ≤ gridsBound
 
@@ -41,6 +43,7 @@ layoutOf s =
       entries = entriesOf s;
       «turns_start» = turnsStart s;
       «signals_start» = signalsStart s;
+      «modes_start» = modesStart s;
       grids = tableOf maxLinks (gridPlace s);
       «arrivals_start» = arrivalsStart s;
       «entries_start» = entriesStart s;
@@ -71,6 +74,8 @@ pub record LaidOut (s : List ℕ) (layout : Layout) : Type 0 where
   pub turns-start-most : layout .«turns_start» ≤ startBound
   pub signals-start-is : layout .«signals_start» ≡ signalsStart s
   pub signals-start-most : layout .«signals_start» ≤ startBound
+  pub modes-start-is : layout .«modes_start» ≡ modesStart s
+  pub modes-start-most : layout .«modes_start» ≤ startBound
   pub grid-is : (l : ℕ) → l < linksOf s → getD (layout .grids) l 0 ≡ gridAt s l
   pub grid-most : (l : ℕ) → l < linksOf s → gridAt s l ≤ startBound
   pub arrivals-start-is : layout .«arrivals_start» ≡ arrivalsStart s
@@ -93,15 +98,16 @@ noLayout =
       entries = 0;
       «turns_start» = 0;
       «signals_start» = 0;
+      «modes_start» = 0;
       grids = replicate maxLinks 0;
       «arrivals_start» = 0;
       «entries_start» = 0;
       cells = 0;
     }
 
--- parts of reading: LK, TN and SG; AR, EN and ZZ; all from GR on
+-- parts of reading: LK, TN, SG and MD; AR, EN and ZZ; all from GR on
 unfoldable pub networkFault : List ℕ → Report
-networkFault s = orElse (linksFault s) (orElse (turnsFault s) (signalsFault s))
+networkFault s = orElse (linksFault s) (orElse (turnsFault s) (orElse (signalsFault s) (modesFault s)))
 
 unfoldable pub tailFault : List ℕ → Report
 tailFault s = orElse (arrivalsFault s) (orElse (entriesFault s) (endFault s))

@@ -27,6 +27,7 @@ pub struct Layout {
     pub entries: usize,
     pub turns_start: usize,
     pub signals_start: usize,
+    pub modes_start: usize,
     pub grids: [usize; limits::MAX_LINKS],
     pub arrivals_start: usize,
     pub entries_start: usize,
@@ -61,6 +62,7 @@ pub fn refused(report: Report) -> Reading
         entries: 0,
         turns_start: 0,
         signals_start: 0,
+        modes_start: 0,
         grids: [0usize; limits::MAX_LINKS],
         arrivals_start: 0,
         entries_start: 0,
@@ -69,10 +71,11 @@ pub fn refused(report: Report) -> Reading
     Reading { report, layout }
 }
 
-// Where the records of turns, signals and grids begin.
+// Where the records of turns, signals, modes and grids begin.
 struct Starts {
     turns: usize,
     signals: usize,
+    modes: usize,
     grids: usize,
 }
 
@@ -81,15 +84,18 @@ fn starts_of(s: &[u8]) -> Starts
 {
     let turns = links::link_at(s, header_record::links_of(s));
     let signals = turns::turn_at(turns, header_record::turns_of(s));
-    let grids = signals::signal_at(signals, header_record::signals_of(s));
+    let modes = signals::signal_at(signals, header_record::signals_of(s));
+    let records = mode_records::records_of(s, header_record::modes_of(s));
+    let grids = mode_records::mode_at(modes, records);
     Starts {
         turns,
         signals,
+        modes,
         grids,
     }
 }
 
-// LK, TN and SG.
+// LK, TN, SG and MD.
 fn check_network(s: &[u8], starts: Starts) -> Report
     requires { ⌜ HeaderFacts (now s) × StartsOf (now s) starts ⌝ }
     ensures { λ r. ⌜ r ≡ networkFault (now (s .entry)) ⌝ }
@@ -103,7 +109,13 @@ fn check_network(s: &[u8], starts: Starts) -> Report
     if g.number != 0 {
         return g;
     }
-    signals::check_signals(s, starts.signals, links, header_record::signals_of(s))
+    let signals = header_record::signals_of(s);
+    let h = signals::check_signals(s, starts.signals, links, signals);
+    if h.number != 0 {
+        return h;
+    }
+    let records = mode_records::records_of(s, header_record::modes_of(s));
+    mode_records::check_modes(s, starts.modes, signals, records)
 }
 
 // The layout of a certificate whose records up to the last GR are as they must be.
@@ -123,6 +135,7 @@ fn lay_out(s: &[u8], starts: Starts, found: grids::Grids) -> Layout
         entries: header_record::entries_of(s),
         turns_start: starts.turns,
         signals_start: starts.signals,
+        modes_start: starts.modes,
         grids: places,
         arrivals_start: found.end,
         entries_start: arrivals::arrival_at(found.end, links, boxes),
@@ -143,6 +156,8 @@ fn check_tail(s: &[u8], layout: Layout) -> Report
         signals: layout.signals,
         modes: layout.modes,
         cells: layout.cells,
+        memory: header_record::has_memory(s),
+        modes_start: layout.modes_start,
     };
     let g = entries::check_entries(s, layout.entries_start, counts, layout.entries);
     if g.number != 0 {
@@ -169,7 +184,7 @@ fn read_back(s: &[u8], starts: Starts) -> Reading
     Reading { report: g, layout }
 }
 
-// Reads any bytes: refusals 1 to 9 and 22, or success and the layout.
+// Reads any bytes: refusals 1 to 9, 22 and 23, or success and the layout.
 pub fn read(s: &[u8]) -> Reading
     ensures { λ r. ⌜ ReadAs (now (s .entry)) (readingOf (now (s .entry))) r ⌝ }
 {

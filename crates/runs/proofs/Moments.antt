@@ -7,9 +7,10 @@ use native.Mathlib.Nat.{eq-or-lt-of-le, eq-zero-or-pos}
 use native.Mathlib.Omega.{arith}
 use lib.ListN.{length}
 use Rattle.certificate.specs.Layout.{entriesOf, rankOf}
-use Rattle.runs.specs.Runs.{RunState, Step, InForce, stepped, after, momentOf, GoalMet, ProperSteps}
+use Rattle.certificate.specs.Facts.{Readable}
+use Rattle.runs.specs.Runs.{RunState, Step, InForce, stepped, after, momentOf, Remembered, GoalMet, ProperSteps}
 use Rattle.runs.specs.Claim.{greatestTo, greatestRank, Kept}
-use Rattle.runs.proofs.Steps.{Follower, Steady, scale-stays}
+use Rattle.runs.proofs.Steps.{Follower, Steady, scale-stays, remembers-on}
 
 -- each number is at most the greatest
 at-most-greatest : (n : ℕ) (f : ℕ → ℕ) (i : ℕ) → i < n → f i ≤ greatestTo n f
@@ -29,6 +30,13 @@ scale-at s r [] pos P (suc k) = pos
 scale-at s r (p ∷ ps) pos P (suc k) =
     scale-at s (stepped s r p) ps (scale-stays s p (P zero (omega arith)) r pos) (λ i lt. P (suc i) (omega arith)) k
 
+-- and the memory is kept
+pub remembered-at : (s : List ℕ) → Readable s → (r : RunState) (steps : List Step) → Remembered s r → (k : ℕ) → Remembered s (momentOf s r steps k)
+unfolding after
+remembered-at s R r steps M zero = M
+remembered-at s R r [] M (suc k) = M
+remembered-at s R r (p ∷ ps) M (suc k) = remembered-at s R (stepped s r p) ps (remembers-on s R r p M) k
+
 -- a moment at which the goal is met, from moment `first` to moment `last`
 record Visit (s : List ℕ) (r : RunState) (steps : List Step) (first last : ℕ) : Type 0 where
   moment : ℕ
@@ -40,6 +48,7 @@ record Visit (s : List ℕ) (r : RunState) (steps : List Step) (first last : ℕ
 pub record Run (s : List ℕ) (r : RunState) (e : ℕ) (steps : List Step) : Type 0 where
   pub scale : 1 ≤ r .scale
   pub in-force : InForce s r e
+  pub remembered : Remembered s r
   pub proper : ProperSteps s steps
 
 -- The claims walk along the list.
@@ -47,10 +56,16 @@ module _ (s : List ℕ) (S : Steady s) where
   -- the entry in force after the first step, and the run from there by the other steps
   module _ {r : RunState} {e : ℕ} {p : Step} {ps : List Step} (R : Run s r e (p ∷ ps)) where
     pub first : Follower s e (stepped s r p)
-    first = S .step r e p (R .in-force) (R .scale) (R .proper zero (omega arith))
+    first = S .step r e p (R .in-force) (R .scale) (R .remembered) (R .proper zero (omega arith))
 
     pub rest : Run s (stepped s r p) (first .entry) ps
-    rest = record { scale = first .scale; in-force = first .in-force; proper = λ k lt. R .proper (suc k) (omega arith) }
+    rest =
+        record {
+          scale = first .scale;
+          in-force = first .in-force;
+          remembered = S .memory r p (R .remembered);
+          proper = λ k lt. R .proper (suc k) (omega arith);
+        }
 
   -- a visit of the run after the first step is one of the whole run, a moment later
   later : {r : RunState} {p : Step} {ps : List Step} {i j k n : ℕ} → k ≤ i + 1 → j + 1 ≤ n → Visit s (stepped s r p) ps i j → Visit s r (p ∷ ps) k n

@@ -2,18 +2,22 @@
 use Prim.Native.Nat.{ℕ, _*_, _≤_, _<_}
 use mathlib.Core.List.{List}
 use mathlib.Core.Bool.{Bool, true, false, cond}
-use mathlib.Core.Path.{_≡_}
+use mathlib.Core.Path.{_≡_, refl, sym, ap, _∙_, fun-ext}
 use native.Mathlib.Nat.{mul-assoc, mul-comm, mul-pos, mul-le-mul-left}
 use native.Mathlib.Omega.{arith}
-use borrow.Author.Tests.{lt-ltb, le-leb}
+use borrow.Author.Tests.{lt-ltb, le-leb, ltb-true}
 use lib.ListN.{length}
-use Rattle.certificate.specs.Layout.{linksOf, capOf, safeOf, goalOf, entriesOf, cellOf, signalOf, rankOf}
-use Rattle.certificate.proofs.Tests.{both-and}
+use lib.Dec.{leb}
+use Rattle.certificate.specs.Loops.{every}
+use Rattle.certificate.specs.Layout.{linksOf, capOf, safeOf, goalOf, entriesOf, cellOf, signalOf, nextModeOf, rankOf, remembers}
+use Rattle.certificate.specs.Facts.{Readable}
+use Rattle.certificate.proofs.Tests.{and-both, both-and}
 use Rattle.certificate.proofs.Loops.{each-every}
-use Rattle.network.specs.Network.{networkOf, isGreen, entryLimit}
+use Rattle.network.specs.Network.{networkOf, isGreen, limitOf, entryLimit}
 use Rattle.network.specs.Flow.{next}
 use Rattle.network.specs.Laws.{Screened}
 use Rattle.network.proofs.Fits.{next-fits}
+use Rattle.network.proofs.Limiting.{plain-limits}
 use Rattle.network.proofs.Screening.{entry-sound}
 use Rattle.grid.specs.Cells.{InCell, cellAt}
 use Rattle.grid.specs.Laws.{InBox}
@@ -21,7 +25,7 @@ use Rattle.grid.proofs.Intervals.{one-cell}
 use Rattle.grid.proofs.Successors.{steps-to-successor}
 use Rattle.judging.specs.Conditions.{EntryHolds}
 use Rattle.runs.specs.Fractions.{scaleOf}
-use Rattle.runs.specs.Runs.{RunState, Step, InForce, entryIn, hasEntry, commonScale, queuesOver, arrivalsOver, moved, stepped, GoalMet, Safe, ProperStep}
+use Rattle.runs.specs.Runs.{RunState, Step, InForce, entryIn, hasEntry, commonScale, queuesOver, arrivalsOver, moved, stepped, Remembered, GoalMet, Safe, ProperStep}
 use Rattle.runs.proofs.Fractions.{scale-least, keeps-low, keeps-high}
 use Rattle.runs.proofs.Cells.{below-bound, same-cell}
 use Rattle.runs.proofs.Lookup.{finds-entry}
@@ -37,7 +41,8 @@ pub record Follower (s : List ℕ) (e : ℕ) (r : RunState) : Type 0 where
 pub record Steady (s : List ℕ) : Type 0 where
   pub safe : (r : RunState) (e : ℕ) → InForce s r e → Safe s r
   pub goal : (r : RunState) (e : ℕ) → InForce s r e → rankOf s e ≡ 0 → GoalMet s r
-  pub step : (r : RunState) (e : ℕ) (p : Step) → InForce s r e → 1 ≤ r .scale → ProperStep s p → Follower s e (stepped s r p)
+  pub step : (r : RunState) (e : ℕ) (p : Step) → InForce s r e → 1 ≤ r .scale → Remembered s r → ProperStep s p → Follower s e (stepped s r p)
+  pub memory : (r : RunState) (p : Step) → Remembered s r → Remembered s (stepped s r p)
 
 -- a step's arrivals have a scale of at least 1, and over the common scale they lie in its arrival box
 module _ (s : List ℕ) (p : Step) (P : ProperStep s p) where
@@ -65,6 +70,20 @@ module _ (s : List ℕ) (p : Step) (P : ProperStep s p) where
       go true = omega (arith, over)
       go false = pos
 
+-- an entry that is looked up exists
+entry-exists : (s : List ℕ) (r : RunState) → hasEntry s r ≡ true → entryIn s r < entriesOf s
+unfolding hasEntry
+entry-exists s r e = ltb-true _ _ (and-both (every (linksOf s) (λ l. leb (r .queue l) (r .scale * capOf s l))) _ e .1)
+
+-- a step keeps the memory, whether an entry is in force or not: the next mode of each entry remembers its signal
+pub remembers-on : (s : List ℕ) → Readable s → (r : RunState) (p : Step) → Remembered s r → Remembered s (stepped s r p)
+unfolding stepped moved
+remembers-on s R r p M = go (hasEntry s r) refl
+  where
+    go : (b : Bool) → hasEntry s r ≡ b → Remembered s (cond b (moved s r p (entryIn s r)) r)
+    go true e k = sym (R .passes-on (entryIn s r) (entry-exists s r e) k)
+    go false e k = M k
+
 -- where an entry is in force the lookup finds it, and a step goes by it
 module _ (s : List ℕ) (S : Screened s) (r : RunState) (e : ℕ) (F : InForce s r e) (pos : 1 ≤ r .scale) where
   fits : (l : ℕ) → l < linksOf s → r .queue l ≤ r .scale * capOf s l
@@ -85,12 +104,34 @@ module _ (s : List ℕ) (S : Screened s) (r : RunState) (e : ℕ) (F : InForce s
   unfolding stepped
   moves p = rw (has-entry, looks-up)
 
+  -- the limits of the step are those that the entry is judged by
+  pub same-limits : Remembered s r → limitOf s (r .shown) (signalOf s e) ≡ entryLimit s e
+  same-limits M = go (remembers s) refl
+    where
+      go : (b : Bool) → remembers s ≡ b → limitOf s (r .shown) (signalOf s e) ≡ entryLimit s e
+      go true k = rw (M k, F .mode)
+      go false k = fun-ext (λ l. plain-limits s k _ _ l ∙ sym (plain-limits s k _ _ l))
+
+  -- the state after the step, by given limits
+  byLimits : Step → (ℕ → ℕ) → RunState
+  byLimits p limit =
+      record {
+        scale = 10000 * commonScale r p;
+        queue = next (networkOf s) limit (commonScale r p) (queuesOver r p) (arrivalsOver r p);
+        mode = nextModeOf s e;
+        shown = moved s r p e .shown;
+      }
+
+  goes-by : Remembered s r → (p : Step) → stepped s r p ≡ byLimits p (entryLimit s e)
+  unfolding moved byLimits
+  goes-by M p = moves p ∙ ap (byLimits p) (same-limits M)
+
 module _ (s : List ℕ) (S : Screened s) (holds : (e : ℕ) → e < entriesOf s → EntryHolds s e) where
   module _ (r : RunState) (e : ℕ) (p : Step) (F : InForce s r e) (pos : 1 ≤ r .scale) where
     -- the next queues lie in a cell that is a successor, so it is listed for the next mode, and lower
-    follower : ProperStep s p → Follower s e (stepped s r p)
-    unfolding moved
-    follower P =
+    follower : Remembered s r → ProperStep s p → Follower s e (stepped s r p)
+    unfolding byLimits
+    follower M P =
         let D : ℕ = commonScale r p in
         let over : 1 ≤ D = mul-pos pos (arrivals-scale s p P) in
         let scale : 1 ≤ 10000 * D = omega arith in
@@ -103,7 +144,7 @@ module _ (s : List ℕ) (S : Screened s) (holds : (e : ℕ) → e < entriesOf s 
         let successor = holds e (F .exists) .successors (p .box) _ (P .box) (cell .exists) meets in
         let f = successor .0 .0 in
         let lists = successor .0 .1 in
-        rw (moves s S r e F pos p) (record {
+        rw (goes-by s S r e F pos M p) (record {
           scale = scale;
           entry = f;
           in-force = record { exists = lists .exists; cell = rw (lists .cell) cell; mode = lists .mode };
@@ -116,4 +157,5 @@ module _ (s : List ℕ) (S : Screened s) (holds : (e : ℕ) → e < entriesOf s 
         safe = λ r e F. below-bound (F .cell) (safeOf s) (holds e (F .exists) .safe);
         goal = λ r e F z. below-bound (F .cell) (goalOf s) (holds e (F .exists) .rank .0 z);
         step = follower;
+        memory = remembers-on s (S .readable);
       }

@@ -35,5 +35,5 @@ Kept s r steps e = KeptAlong s (momentOf s r steps) (length steps) e
 abbrev pub RunClaim : List ℕ → Type 0
 RunClaim s =
     (mode : ℕ) (queues : List Fraction) (steps : List Step) (e : ℕ)
-    → ProperQueues s queues → ProperSteps s steps → InForce s (start queues mode) e
-    → Kept s (start queues mode) steps e
+    → ProperQueues s queues → ProperSteps s steps → InForce s (start s queues mode) e
+    → Kept s (start s queues mode) steps e

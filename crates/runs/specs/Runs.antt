@@ -1,32 +1,33 @@
--- A run: a certificate, first queues, a first mode and a list of steps.
+-- A run: a certificate, first queues, a first mode and a list of steps. It begins after the signal that the first mode remembers.
 use Prim.Native.Nat.{ℕ, _+_, _*_, _≤_, _<_}
 use mathlib.Core.List.{List, [], _∷_}
-use mathlib.Core.Bool.{Bool, _&&_, cond}
+use mathlib.Core.Bool.{Bool, true, _&&_, cond}
 use mathlib.Core.Path.{_≡_}
 use lib.ListN.{length, take, getD}
 use lib.Dec.{leb, ltb}
 use Rattle.certificate.specs.Loops.{every}
-use Rattle.certificate.specs.Layout.{linksOf, capOf, safeOf, goalOf, boxesOf, lowOf, highOf, entriesOf, cellOf, modeOf, nextModeOf}
-use Rattle.network.specs.Network.{networkOf, entryLimit}
+use Rattle.certificate.specs.Layout.{linksOf, capOf, safeOf, goalOf, boxesOf, lowOf, highOf, entriesOf, cellOf, modeOf, signalOf, nextModeOf, remembers, shownBefore}
+use Rattle.network.specs.Network.{networkOf, limitOf}
 use Rattle.network.specs.Flow.{next}
 use Rattle.grid.specs.Cells.{InCell, cellAt}
 use Rattle.judging.specs.Lookup.{entryFor}
 use Rattle.runs.specs.Fractions.{Fraction, fractionAt, AtLeast, AtMost, scaleOf, overScale}
 
--- the state of a run: the queues, over one scale, and the mode
+-- the state of a run: the queues, over one scale, the mode, and the signal last shown (in HD it has no effect: network `PlainLimits`)
 pub record RunState : Type 0 where
   pub scale : ℕ
   pub queue : ℕ → ℕ
   pub mode : ℕ
+  pub shown : ℕ
 
 -- a step: the number of an arrival box, and one exact fraction a link
 pub record Step : Type 0 where
   pub box : ℕ
   pub arrivals : List Fraction
 
--- the state at moment 0
-abbrev pub start : List Fraction → ℕ → RunState
-start queues mode = record { scale = scaleOf queues; queue = overScale queues; mode = mode }
+-- the state at moment 0: after the signal that the first mode remembers
+abbrev pub start : List ℕ → List Fraction → ℕ → RunState
+start s queues mode = record { scale = scaleOf queues; queue = overScale queues; mode = mode; shown = shownBefore s mode }
 
 -- entry e is in force: the queues lie in its cell and it is listed for the mode held
 pub record InForce (s : List ℕ) (r : RunState) (e : ℕ) : Type 0 where
@@ -52,15 +53,17 @@ queuesOver r p l = r .queue l * scaleOf (p .arrivals)
 abbrev pub arrivalsOver : RunState → Step → ℕ → ℕ
 arrivalsOver r p l = r .scale * overScale (p .arrivals) l
 
+-- each link sends at most its limit under the entry's signal after the signal last shown; the entry's signal is then the one last shown
 unfoldable pub moved : List ℕ → RunState → Step → ℕ → RunState
 moved s r p e =
     record {
       scale = 10000 * commonScale r p;
-      queue = next (networkOf s) (entryLimit s e) (commonScale r p) (queuesOver r p) (arrivalsOver r p);
+      queue = next (networkOf s) (limitOf s (r .shown) (signalOf s e)) (commonScale r p) (queuesOver r p) (arrivalsOver r p);
       mode = nextModeOf s e;
+      shown = signalOf s e;
     }
 
--- the state after a step; with no entry in force, both queues and mode as they were
+-- the state after a step; with no entry in force, queues, mode and signal as they were
 unfoldable pub stepped : List ℕ → RunState → Step → RunState
 stepped s r p = cond (hasEntry s r) (moved s r p (entryIn s r)) r
 
@@ -72,6 +75,10 @@ after s r (p ∷ ps) = after s (stepped s r p) ps
 -- the state at moment k: after k steps
 abbrev pub momentOf : List ℕ → RunState → List Step → ℕ → RunState
 momentOf s r steps k = after s r (take k steps)
+
+-- in H2 the signal last shown is the one that the mode held remembers
+abbrev pub Remembered : List ℕ → RunState → Type 0
+Remembered s r = remembers s ≡ true → r .shown ≡ shownBefore s (r .mode)
 
 -- the goal is met: no queue exceeds its link's goal; a visit is a moment at which it is
 abbrev pub GoalMet : List ℕ → RunState → Type 0

@@ -40,5 +40,5 @@ module _ {s : List ℕ} {start turns links : ℕ} (R : NetworkAt s start turns l
   pub turn-whole : (t : ℕ) → t < turns → turnAt s t + turnSize ≤ length s
   turn-whole t h = omega (arith, turn-end s t (omega arith), starts s, R .readable .whole)
 
-  pub link-whole : (l : ℕ) → l < links → linkAt l + linkSize ≤ length s
+  pub link-whole : (l : ℕ) → l < links → linkAt s l + linkSize s ≤ length s
   link-whole l h = omega (arith, link-end s l (omega arith), starts s, R .readable .whole)

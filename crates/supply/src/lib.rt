@@ -68,7 +68,7 @@ fn rooms_of(
     lower: &[usize; limits::MAX_LINKS],
     upper: &[usize; limits::MAX_LINKS],
 ) -> Rooms
-    requires { ⌜ (t < 256) × (start ≤ startBound) × (start ≡ turnsStart (now s)) × (toOf (now s) t < 8) × (at (now lower) (toOf (now s) t) ≤ capOf (now s) (toOf (now s) t)) × (at (now upper) (toOf (now s) t) ≤ capOf (now s) (toOf (now s) t)) × (turnAt (now s) t + turnSize ≤ length (now s)) × (linkAt (toOf (now s) t) + linkSize ≤ length (now s)) ⌝ }
+    requires { ⌜ (t < 256) × (start ≤ startBound) × (start ≡ turnsStart (now s)) × (toOf (now s) t < 8) × (at (now lower) (toOf (now s) t) ≤ capOf (now s) (toOf (now s) t)) × (at (now upper) (toOf (now s) t) ≤ capOf (now s) (toOf (now s) t)) × (turnAt (now s) t + turnSize ≤ length (now s)) × (linkAt (now s) (toOf (now s) t) + linkSize (now s) ≤ length (now s)) ⌝ }
     ensures { λ r. ⌜ (r .lower ≡ supplyAt (now (s .entry)) (at (now (lower .entry))) t) × (r .upper ≡ supplyAt (now (s .entry)) (at (now (upper .entry))) t) ⌝ }
 {
     let to = turns::to_within(s, start, t);

@@ -23,38 +23,37 @@ use table::Other;
 #[derive(Clone, Copy, Debug, PartialEq, Eq)]
 pub enum Extent {
     All,
-    /// Without verdicts on the two of 4,096 entries.
+    /// Without verdicts on those of 4,096 entries.
     Part,
 }
 
 /// Times every call, and shows each row as soon as it is there. A result that is not the due one is an error.
 pub fn bench(extent: Extent, mut show: impl FnMut(Row)) -> Result<(), String> {
-    let small = Sample::named("L")?;
-    let typical = Sample::named("typical")?;
-    let largest = Sample::named("largest")?;
-    let worst = Sample::named("worst")?;
-    let all = [&small, &typical, &largest, &worst];
-    let judged = match extent {
-        Extent::All => &all[..],
-        Extent::Part => &all[..2],
+    let plain = ["L", "typical", "largest"];
+    let judged = ["L", "typical", "largest", "worst"];
+    let h2 = ["typical H2", "largest H2"];
+    let (judged, listed, h2) = match extent {
+        Extent::All => (&judged[..], &plain[..], &h2[..]),
+        Extent::Part => (&judged[..2], &plain[..2], &h2[..1]),
     };
-    let listed = &judged[..judged.len().min(3)];
-    let mut time = |call: Call, samples: &[&Sample]| -> Result<(), String> {
-        for sample in samples {
-            show(row(call, sample)?);
+    let mut time = |call: Call, names: &[&str]| -> Result<(), String> {
+        for name in names {
+            show(row(call, &Sample::named(name)?)?);
         }
         Ok(())
     };
-    time(Call::Screen, &all[..3])?;
-    time(Call::Judge, judged)?;
-    time(Call::Load, judged)?;
-    for sample in [&small, &largest] {
-        time(Call::Query(Asked::First), &[sample])?;
-        time(Call::Query(Asked::Last), &[sample])?;
-        time(Call::Poll(Asked::First), &[sample])?;
-        time(Call::Poll(Asked::Last), &[sample])?;
+    time(Call::Screen, &plain)?;
+    for call in [Call::Judge, Call::Load] {
+        time(call, judged)?;
+        time(call, h2)?;
     }
-    time(Call::Write, &all[..3])?;
+    for name in ["L", "largest"] {
+        time(Call::Query(Asked::First), &[name])?;
+        time(Call::Query(Asked::Last), &[name])?;
+        time(Call::Poll(Asked::First), &[name])?;
+        time(Call::Poll(Asked::Last), &[name])?;
+    }
+    time(Call::Write, &plain)?;
     time(Call::List, listed)
 }
 

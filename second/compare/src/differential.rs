@@ -9,9 +9,26 @@ use crate::generate::{
 use crate::numbers::Numbers;
 use crate::sides::{judge, list, listed, screen, Agreed, Difference, Sides};
 use crate::tally::Tally;
+use second::certificate::{Certificate, Kind};
 use second::reading::read;
 use second::text::decode;
-use second::{Certificate, State};
+use second::{State, Verdict};
+
+/// Which kinds of certificates are drawn. A damaged copy may be of another kind.
+#[derive(Clone, Copy, Debug, PartialEq, Eq)]
+pub enum Kinds {
+    Only(Kind),
+    Both,
+}
+
+impl Kinds {
+    fn draw(self, numbers: &mut Numbers) -> Kind {
+        match self {
+            Kinds::Only(kind) => kind,
+            Kinds::Both => numbers.pick(&Kind::ALL),
+        }
+    }
+}
 
 /// How much is compared, and from which seed.
 #[derive(Clone, Debug)]
@@ -20,6 +37,7 @@ pub struct Plan {
     pub loads: u64,
     pub queries: u64,
     pub polls: u64,
+    pub kinds: Kinds,
 }
 
 impl Plan {
@@ -50,9 +68,14 @@ pub struct Found {
 
 /// Compares until the plan is done or a difference is found.
 pub fn differential(plan: &Plan) -> Result<Tally, Box<Found>> {
+    let mut first = Numbers::of(plan.seed, u64::MAX);
+    let kind = plan.kinds.draw(&mut first);
+    let base = certificate(&mut first, Size::Small, kind);
     let mut run = Run {
         sides: Sides::of(State::fresh()),
-        base: certificate(&mut Numbers::of(plan.seed, u64::MAX), Size::Small),
+        is_accepted: second::judge(&bytes_of(&base)).is_accepted(),
+        base,
+        kinds: plan.kinds,
         held: None,
         bytes: Vec::new(),
         tally: Tally::default(),
@@ -68,8 +91,10 @@ pub fn differential(plan: &Plan) -> Result<Tally, Box<Found>> {
 
 struct Run {
     sides: Sides,
-    /// The certificate that damaged copies are made of.
+    kinds: Kinds,
+    /// The certificate that damaged copies are made of, and whether it is accepted.
     base: Certificate,
+    is_accepted: bool,
     /// What the state was last given, if it can be read.
     held: Option<Certificate>,
     bytes: Vec<u8>,
@@ -79,10 +104,10 @@ struct Run {
 impl Run {
     /// One load and the calls after it.
     fn step(&mut self, numbers: &mut Numbers, due: Due) -> Agreed<()> {
-        self.draw(numbers);
+        let is_damaged = self.draw(numbers);
         screen(&self.bytes)?;
         let verdict = self.sides.load(&self.bytes)?;
-        self.tally.loads.add(verdict.report.number);
+        self.count(verdict, is_damaged);
         judge(&self.bytes, verdict)?;
         if verdict.is_accepted() {
             self.held = read(&self.bytes).ok();
@@ -108,18 +133,32 @@ impl Run {
         Ok(())
     }
 
-    /// The next bytes: a new certificate, or a damaged copy of the last.
-    fn draw(&mut self, numbers: &mut Numbers) {
+    /// The next bytes: a new certificate, or a damaged copy of the last; tells which.
+    fn draw(&mut self, numbers: &mut Numbers) -> bool {
         if numbers.chance(60) {
             self.bytes = damaged(&self.base, numbers);
-            return;
+            return true;
         }
         let size = match numbers.below(400) {
             0 => Size::Large,
             _ => Size::Small,
         };
-        self.base = certificate(numbers, size);
+        let kind = self.kinds.draw(numbers);
+        self.base = certificate(numbers, size, kind);
         self.bytes = bytes_of(&self.base);
+        false
+    }
+
+    /// Counts a load.
+    fn count(&mut self, verdict: Verdict, is_damaged: bool) {
+        let number = verdict.report.number;
+        self.tally.loads.add(number);
+        if !is_damaged {
+            self.is_accepted = verdict.is_accepted();
+        }
+        if self.bytes.starts_with(Kind::H2.mark()) {
+            self.tally.h2.add(number, is_damaged && self.is_accepted);
+        }
     }
 
     /// Both sides take a state made by hand.

@@ -5,11 +5,13 @@ pub mod bytes;
 mod calls;
 mod damage;
 mod entries;
+mod game;
 mod grid;
 mod network;
 mod policy;
 mod polls;
 mod solve;
+mod starts;
 
 pub use calls::{any_query, any_state, any_write, Query};
 pub use damage::damaged;
@@ -18,7 +20,7 @@ pub use policy::find_policy;
 pub use polls::any_poll;
 
 use crate::numbers::Numbers;
-use second::Certificate;
+use second::certificate::{Certificate, Kind};
 
 /// Networks that are tried until a policy is found.
 const TRIES: usize = 6;
@@ -33,16 +35,16 @@ pub enum Size {
 }
 
 /// A certificate that is to be accepted; most have ranks above 0.
-pub fn certificate(numbers: &mut Numbers, size: Size) -> Certificate {
+pub fn certificate(numbers: &mut Numbers, size: Size, kind: Kind) -> Certificate {
     for _ in 0..TRIES {
-        let mut drawn = roads(numbers, size);
+        let mut drawn = roads(numbers, size, kind);
         match policy::add_policy(&mut drawn, numbers) {
             Some(0) if numbers.chance(80) => (),
             Some(_) => return drawn,
             None => (),
         }
     }
-    let mut drawn = roads(numbers, size);
+    let mut drawn = roads(numbers, size, kind);
     for link in &mut drawn.links {
         link.safe = link.cap;
         link.goal = link.cap;
@@ -52,8 +54,12 @@ pub fn certificate(numbers: &mut Numbers, size: Size) -> Certificate {
 }
 
 /// All but modes and entries.
-fn roads(numbers: &mut Numbers, size: Size) -> Certificate {
+fn roads(numbers: &mut Numbers, size: Size, kind: Kind) -> Certificate {
     let mut drawn = network::network(numbers, size);
+    if kind == Kind::H2 {
+        starts::add_signals(&mut drawn, numbers);
+        starts::add_starts(&mut drawn, numbers);
+    }
     grid::add_grid(&mut drawn, numbers, size);
     arrivals::add_arrivals(&mut drawn, numbers);
     drawn

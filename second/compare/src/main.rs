@@ -1,17 +1,18 @@
 //! Commands that compare the library with other checkers.
 
 use compare::bench::{self, bench, once, Row};
-use compare::differential::{differential, shown, Plan};
+use compare::differential::{differential, shown, Kinds, Plan};
 use compare::readings::{readings, Extent};
+use second::certificate::Kind;
 use std::process::ExitCode;
 
 const USAGE: &str = "\
-usage: compare differential --seed S --loads N --queries M --polls P
+usage: compare differential --seed S --loads N --queries M --polls P [--kind hd|h2|both]
        compare reading --all|--part
        compare bench [--part]
        compare once CALL CERTIFICATE [N]
            CALL: screen, judge, load, query-first, query-last, poll-first, poll-last, write, list
-           CERTIFICATE: L, typical, largest, worst
+           CERTIFICATE: L, typical, largest, worst, 'typical H2', 'largest H2'
 ";
 
 fn main() -> ExitCode {
@@ -40,19 +41,28 @@ fn usage() -> ExitCode {
     ExitCode::from(2)
 }
 
-/// `--seed S --loads N --queries M --polls P`, in any order.
+/// `--seed S --loads N --queries M --polls P`, and `--kind K` or not, in any order.
 fn plan(options: &[&str]) -> Option<Plan> {
-    let number = |name: &str| {
+    let word = |name: &str| {
         let at = options.iter().position(|&option| option == name)?;
-        options.get(at + 1)?.parse().ok()
+        options.get(at + 1)
+    };
+    let number = |name: &str| word(name)?.parse().ok();
+    let (kinds, size) = match word("--kind") {
+        Some(&"hd") => (Kinds::Only(Kind::Hd), 10),
+        Some(&"h2") => (Kinds::Only(Kind::H2), 10),
+        Some(&"both") => (Kinds::Both, 10),
+        Some(_) => return None,
+        None => (Kinds::Both, 8),
     };
     let plan = Plan {
         seed: number("--seed")?,
         loads: number("--loads")?,
         queries: number("--queries")?,
         polls: number("--polls")?,
+        kinds,
     };
-    (options.len() == 8 && plan.loads > 0).then_some(plan)
+    (options.len() == size && plan.loads > 0).then_some(plan)
 }
 
 fn run_differential(plan: &Plan) -> ExitCode {

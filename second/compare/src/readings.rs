@@ -8,14 +8,21 @@ use crate::sides::{screen, Agreed};
 #[derive(Clone, Copy, Debug, PartialEq, Eq)]
 pub enum Extent {
     All,
-    /// Every one of a small certificate, and some of the others.
+    /// Every one of the small certificates, and some of the others.
     Part,
 }
 
 /// Both checkers agree on all that is tried; tells how much that was, or the first difference.
 pub fn readings(extent: Extent) -> Result<u64, String> {
     let mut tried = 0;
-    for bytes in [samples::listed(), samples::typical(), samples::largest()] {
+    for bytes in [
+        samples::listed(),
+        samples::typical(),
+        samples::largest(),
+        samples::h2::listed(),
+        samples::h2::typical(),
+        samples::h2::largest(),
+    ] {
         let step = match extent {
             Extent::All => 1,
             Extent::Part => 1 + bytes.len() / 300,

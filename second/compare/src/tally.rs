@@ -6,8 +6,8 @@ use std::fmt;
 #[derive(Clone, Debug, Default)]
 pub struct Numbered([u64; NUMBERS]);
 
-/// Result numbers: 0 to 22.
-const NUMBERS: usize = 23;
+/// Result numbers: 0 to 23.
+const NUMBERS: usize = 24;
 
 impl Numbered {
     pub fn add(&mut self, number: u32) {
@@ -36,7 +36,49 @@ impl fmt::Display for Numbered {
 }
 
 /// The refusals of a load, in the order of their tests.
-pub const LOAD_REFUSALS: [usize; 16] = [1, 2, 3, 4, 5, 6, 7, 8, 9, 22, 10, 11, 12, 13, 14, 15];
+pub const LOAD_REFUSALS: [usize; 17] = [1, 2, 3, 4, 5, 6, 7, 8, 9, 22, 23, 10, 11, 12, 13, 14, 15];
+
+/// Loads of bytes that open with H2.
+#[derive(Clone, Debug, Default)]
+pub struct H2Loads {
+    pub results: Numbered,
+    /// Refused ones that are a damaged copy of an accepted certificate.
+    pub damaged: u64,
+}
+
+impl H2Loads {
+    /// Takes a load by its result and by whether it is a damaged copy of an accepted certificate.
+    pub fn add(&mut self, number: u32, is_damaged: bool) {
+        self.results.add(number);
+        self.damaged += u64::from(number != 0 && is_damaged);
+    }
+}
+
+impl fmt::Display for H2Loads {
+    fn fmt(&self, out: &mut fmt::Formatter<'_>) -> fmt::Result {
+        writeln!(out, "H2 loads: {}", self.results.all())?;
+        writeln!(out, "  {}", shown_share(&self.results))?;
+        writeln!(
+            out,
+            "  refused, damaged from an accepted one: {}",
+            self.damaged
+        )?;
+        write_refusals(out, &self.results)
+    }
+}
+
+/// How many were accepted.
+fn shown_share(loads: &Numbered) -> String {
+    let share = 100.0 * loads.of(0) as f64 / loads.all().max(1) as f64;
+    format!("{} accepted ({share:.1} %)", loads.of(0))
+}
+
+fn write_refusals(out: &mut fmt::Formatter<'_>, loads: &Numbered) -> fmt::Result {
+    for number in LOAD_REFUSALS {
+        writeln!(out, "  refused {number}: {}", loads.of(number))?;
+    }
+    Ok(())
+}
 
 /// Entries that may overflow, of accepted loads.
 #[derive(Clone, Debug, Default)]
@@ -84,6 +126,7 @@ impl fmt::Display for Overflows {
 #[derive(Clone, Debug, Default)]
 pub struct Tally {
     pub loads: Numbered,
+    pub h2: H2Loads,
     pub overflows: Overflows,
     pub queries: Numbered,
     pub polls: Numbered,
@@ -93,12 +136,10 @@ pub struct Tally {
 
 impl fmt::Display for Tally {
     fn fmt(&self, out: &mut fmt::Formatter<'_>) -> fmt::Result {
-        let share = 100.0 * self.loads.of(0) as f64 / self.loads.all().max(1) as f64;
-        writeln!(out, "loads: {} accepted ({share:.1} %)", self.loads.of(0))?;
+        writeln!(out, "loads: {}", shown_share(&self.loads))?;
         writeln!(out, "  overflows: {}", self.overflows)?;
-        for number in LOAD_REFUSALS {
-            writeln!(out, "  refused {number}: {}", self.loads.of(number))?;
-        }
+        write_refusals(out, &self.loads)?;
+        write!(out, "{}", self.h2)?;
         writeln!(out, "queries: {}", self.queries)?;
         writeln!(out, "polls: {}", self.polls)?;
         writeln!(out, "writes: {}", self.writes)?;

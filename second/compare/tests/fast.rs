@@ -6,6 +6,7 @@ use compare::generate::{
 use compare::numbers::Numbers;
 use compare::sides::state_bytes;
 use compare::{fast, peer, samples};
+use second::certificate::Kind;
 use second::conditions::read_sound;
 use second::text::encode;
 use second::{listing, Report, State, Verdict};
@@ -34,13 +35,13 @@ fn lists(listing: impl Fn(&[u8], &mut [u8]) -> Option<usize>, bytes: &[u8], text
     assert_eq!(listing(bytes, &mut buffer[..text.len() - 1]), None);
 }
 
-#[test]
-fn on_generated_certificates() {
+/// Generated certificates of a kind and two damaged copies of each: how often each number came for the copies.
+fn on_generated(kind: Kind) -> [u64; 24] {
     let (mut accepted, mut ranked) = (0, 0);
-    let mut refused = [0; 23];
-    for part in 0..1_500 {
+    let mut refused = [0; 24];
+    for part in 0..1_000 {
         let mut numbers = Numbers::of(3, part);
-        let drawn = certificate(&mut numbers, Size::Small);
+        let drawn = certificate(&mut numbers, Size::Small, kind);
         if agrees(&bytes_of(&drawn)).is_accepted() {
             accepted += 1;
             ranked += usize::from(drawn.entries.iter().any(|entry| entry.rank > 0));
@@ -50,19 +51,34 @@ fn on_generated_certificates() {
             refused[verdict.report.number as usize] += 1;
         }
     }
-    assert!(accepted > 1_400, "{accepted}");
-    assert!(ranked > 700, "{ranked}");
-    let often = [9, 12, 13, 14, 15, 22];
-    assert!(often.iter().all(|&at| refused[at] > 20), "{refused:?}");
+    assert!(accepted > 930, "{accepted}");
+    assert!(ranked > 450, "{ranked}");
+    refused
 }
 
-/// Missing names and wrong order: the due refusal, and a state made by hand holds no certificate.
+#[test]
+fn on_generated_certificates() {
+    let refused = on_generated(Kind::Hd);
+    let often = [9, 12, 13, 14, 15, 22];
+    assert!(often.iter().all(|&at| refused[at] > 15), "{refused:?}");
+}
+
+#[test]
+fn on_generated_h2_certificates() {
+    let refused = on_generated(Kind::H2);
+    let often = [1, 2, 4, 6, 9, 12, 13, 14, 15, 22, 23];
+    assert!(often.iter().all(|&at| refused[at] > 15), "{refused:?}");
+}
+
+/// Missing names, wrong order and memories of other signals: the due refusal, and a state made by hand holds no
+/// certificate.
 #[test]
 fn on_spoilt_entries() {
     for part in 0..200 {
         let mut numbers = Numbers::of(9, part);
-        let drawn = certificate(&mut numbers, Size::Small);
-        for way in Way::ALL {
+        let kind = Kind::ALL[part as usize % 2];
+        let drawn = certificate(&mut numbers, Size::Small, kind);
+        for way in Way::all(kind) {
             let (bytes, due) = spoilt(&drawn, way, &mut numbers);
             assert_eq!(agrees(&bytes), Verdict::refused(due), "{way:?}");
             let mut own = State::by_hand(&bytes, bytes.len(), 0);
@@ -79,7 +95,8 @@ fn on_spoilt_entries() {
 #[test]
 fn on_large_certificates() {
     for part in 0..4 {
-        let drawn = certificate(&mut Numbers::of(4, part), Size::Large);
+        let kind = Kind::ALL[part as usize % 2];
+        let drawn = certificate(&mut Numbers::of(4, part), Size::Large, kind);
         agrees(&bytes_of(&drawn));
     }
 }
@@ -87,10 +104,10 @@ fn on_large_certificates() {
 /// Every prefix and every byte changed, against the second checker.
 #[test]
 fn on_small_changes() {
-    let listed = samples::listed();
     let mut numbers = Numbers::of(5, 0);
-    let drawn = bytes_of(&certificate(&mut numbers, Size::Small));
-    for bytes in [listed, drawn] {
+    let drawn = Kind::ALL.map(|kind| bytes_of(&certificate(&mut numbers, Size::Small, kind)));
+    let listed = [samples::listed(), samples::h2::listed()];
+    for bytes in listed.into_iter().chain(drawn) {
         let bytes = &bytes[..bytes.len().min(400)];
         for at in 0..bytes.len() {
             agrees(&bytes[..at]);
@@ -101,6 +118,22 @@ fn on_small_changes() {
             }
         }
     }
+}
+
+/// Sizes and verdicts of the H2 samples; the second checker is not asked for the last two.
+#[test]
+fn on_h2_samples() {
+    assert_eq!(agrees(&samples::h2::listed()), Verdict::accepted(10, 0));
+    let typical = samples::h2::typical();
+    assert_eq!(agrees(&typical), Verdict::accepted(61_062, 404));
+    assert_eq!(read_sound(&typical).unwrap().entries.len(), 2_500);
+    let largest = samples::h2::largest();
+    assert_eq!(fast::judge(&largest), Verdict::accepted(6_071_344, 4_012));
+    assert_eq!(peer::judge(&largest), fast::judge(&largest));
+    let longest = samples::h2::longest();
+    assert_eq!(longest.len(), 37_663);
+    assert_eq!(fast::judge(&longest), Verdict::accepted(6_285_008, 4_096));
+    assert_eq!(peer::judge(&longest), fast::judge(&longest));
 }
 
 /// Sizes and verdicts of the samples; the second checker takes half a minute for each of the last two.
@@ -127,7 +160,13 @@ fn on_samples() {
 #[test]
 fn on_damaged_samples() {
     let mut numbers = Numbers::of(6, 0);
-    for bytes in [samples::typical(), samples::largest(), samples::worst()] {
+    for bytes in [
+        samples::typical(),
+        samples::largest(),
+        samples::worst(),
+        samples::h2::typical(),
+        samples::h2::largest(),
+    ] {
         let read = read_sound(&bytes).unwrap();
         let mut seen = [0; 16];
         for _ in 0..20 {
@@ -172,7 +211,8 @@ fn on_polls() {
     let mut seen = [0; 22];
     for part in 0..400 {
         let mut numbers = Numbers::of(8, part);
-        let drawn = certificate(&mut numbers, Size::Small);
+        let kind = Kind::ALL[part as usize % 2];
+        let drawn = certificate(&mut numbers, Size::Small, kind);
         for bytes in [bytes_of(&drawn), damaged(&drawn, &mut numbers)] {
             let mut own = any_state(&bytes, &mut numbers);
             let mut state = state_bytes(&own);

@@ -4,7 +4,7 @@
 use compare::generate::{bytes::bytes_of, certificate, Size};
 use compare::numbers::Numbers;
 use compare::tally::Overflows;
-use second::certificate::Entry;
+use second::certificate::{Entry, Kind};
 use second::flow::{caps, uncut_queues, Amounts, FINER};
 use second::grid::{cells, Cell};
 use second::{judge, Certificate};
@@ -31,7 +31,7 @@ impl Point {
 
 /// Every point of an entry.
 fn points(certificate: &Certificate, entry: &Entry, cell: &Cell) -> Vec<Point> {
-    let green = certificate.signals[usize::from(entry.signal)];
+    let greens = certificate.greens(entry);
     let caps = caps(certificate, 1);
     let mut points = Vec::new();
     for (arrivals, pairs) in certificate.arrivals.iter().enumerate() {
@@ -44,7 +44,7 @@ fn points(certificate: &Certificate, entry: &Entry, cell: &Cell) -> Vec<Point> {
                     let ends = [pairs[link].low, pairs[link].high];
                     come[link] = ends[usize::from(is_greatest)].into();
                 }
-                let next = uncut_queues(certificate, green, &queues, &come, 1);
+                let next = uncut_queues(certificate, greens, &queues, &come, 1);
                 points.push(Point {
                     is_upper: corner + 1 == 1 << cell.len(),
                     is_greatest,
@@ -89,7 +89,8 @@ fn generated_certificates_tell_slips() {
     let mut overflows = Overflows::default();
     let mut told = [0; TESTS.len()];
     for part in 0..1_000 {
-        let drawn = certificate(&mut Numbers::of(12, part), Size::Small);
+        let kind = Kind::ALL[part as usize % 2];
+        let drawn = certificate(&mut Numbers::of(12, part), Size::Small, kind);
         let verdict = judge(&bytes_of(&drawn));
         if verdict.is_accepted() {
             overflows.add(verdict.overflows, drawn.entries.len() as u64);

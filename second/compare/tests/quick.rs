@@ -1,34 +1,42 @@
 //! A fixed part of every comparison.
 
-use compare::differential::{differential, roadside, shown, slices, Plan};
+use compare::differential::{differential, roadside, shown, slices, Kinds, Plan};
 use compare::generate::{any_poll, any_query, certificate, spoilt, Size, Way};
 use compare::numbers::Numbers;
 use compare::readings::{readings, Extent};
 use compare::samples;
 use compare::sides::{screen, Agreed, Sides};
-use compare::tally::LOAD_REFUSALS;
+use compare::tally::{Tally, LOAD_REFUSALS};
+use second::certificate::Kind;
 use second::conditions::read_sound;
 use second::{Certificate, Report, State, Verdict};
 
+/// The tally of a plan without differences.
+fn done(plan: &Plan) -> Tally {
+    let tally = differential(plan).unwrap_or_else(|found| panic!("{}", shown(plan.seed, &found)));
+    assert_eq!(tally.loads.all(), plan.loads);
+    assert_eq!(tally.queries.all(), plan.queries);
+    assert_eq!(tally.polls.all(), plan.polls);
+    tally
+}
+
 #[test]
 fn library_and_second_checker_agree() {
-    let plan = Plan {
+    let tally = done(&Plan {
         seed: 1,
         loads: 1_500,
         queries: 6_000,
         polls: 6_000,
-    };
-    let tally = differential(&plan).unwrap_or_else(|found| panic!("{}", shown(plan.seed, &found)));
-    assert_eq!(tally.loads.all(), plan.loads);
-    assert_eq!(tally.queries.all(), plan.queries);
-    assert_eq!(tally.polls.all(), plan.polls);
+        kinds: Kinds::Both,
+    });
     assert!(tally.loads.of(0) * 10 > tally.loads.all() * 4, "{tally}");
     for number in LOAD_REFUSALS {
         assert!(tally.loads.of(number) > 0, "no {number}\n{tally}");
     }
-    for number in [9, 22] {
+    for number in [9, 22, 23] {
         assert!(tally.loads.of(number) > 20, "few {number}\n{tally}");
     }
+    half_h2(&tally);
     let overflows = &tally.overflows;
     for kind in [overflows.none, overflows.some, overflows.all] {
         assert!(kind * 10 > tally.loads.of(0), "{tally}");
@@ -47,13 +55,51 @@ fn library_and_second_checker_agree() {
     assert!(tally.listings.of(0) > 100, "{tally}");
 }
 
-/// Missing names and wrong order in every way: 9 or 22 as is due, and 18 of a state made by hand.
+/// About half of the loads are of H2 certificates; most of those are accepted or damaged from accepted ones.
+fn half_h2(tally: &Tally) {
+    let (h2, all) = (&tally.h2, tally.loads.all());
+    let loads = h2.results.all();
+    assert!(loads * 10 > all * 4 && loads * 10 < all * 6, "{tally}");
+    assert!((h2.results.of(0) + h2.damaged) * 10 > loads * 8, "{tally}");
+    assert!(h2.results.of(0) * 10 > loads * 3, "{tally}");
+    for number in [1, 2, 4, 6, 9, 22, 23, 12, 13, 14, 15] {
+        assert!(h2.results.of(number) > 0, "no {number}\n{tally}");
+    }
+}
+
+/// H2 alone: every call is answered in every way on states that hold such certificates.
+#[test]
+fn h2_certificates_agree() {
+    let tally = done(&Plan {
+        seed: 2,
+        loads: 500,
+        queries: 2_500,
+        polls: 2_500,
+        kinds: Kinds::Only(Kind::H2),
+    });
+    let h2 = &tally.h2;
+    assert!(h2.results.all() * 10 > tally.loads.all() * 9, "{tally}");
+    for number in [0, 16, 18, 19] {
+        assert!(tally.queries.of(number) > 50, "few {number}\n{tally}");
+    }
+    for number in [0, 16, 18, 19, 20, 21] {
+        assert!(tally.polls.of(number) > 50, "few {number}\n{tally}");
+    }
+    for number in [0, 17, 18] {
+        assert!(tally.writes.of(number) > 10, "few {number}\n{tally}");
+    }
+    assert!(tally.listings.of(0) > 50, "{tally}");
+}
+
+/// Missing names, wrong order and memories of other signals in every way: 9, 22 or 23 as is due, and 18 of a state made
+/// by hand.
 #[test]
 fn spoilt_entries_agree() {
     for part in 0..40 {
         let mut numbers = Numbers::of(10, part);
-        let drawn = certificate(&mut numbers, Size::Small);
-        for way in Way::ALL {
+        let kind = Kind::ALL[part as usize % 2];
+        let drawn = certificate(&mut numbers, Size::Small, kind);
+        for way in Way::all(kind) {
             let (bytes, due) = spoilt(&drawn, way, &mut numbers);
             let told = refused_alike(&bytes, due, &drawn, &mut numbers);
             told.unwrap_or_else(|difference| panic!("{way:?} {difference:?}"));
@@ -78,6 +124,27 @@ fn refused_alike(
     assert_eq!(poll, no_certificate);
     assert_eq!(sides.write(bytes.len(), 0)?, no_certificate);
     Ok(())
+}
+
+/// The longest certificate fits the state: it is read, asked and written alike.
+#[test]
+fn the_longest_agrees() {
+    let longest = samples::h2::longest();
+    assert_eq!(longest.len(), 37_663);
+    let agreed = || -> Agreed<()> {
+        assert_eq!(screen(&longest)?, Report::SUCCESS);
+        let mut sides = Sides::of(State::by_hand(&longest, longest.len(), 0));
+        let certificate = read_sound(&longest).expect("the longest");
+        let mut numbers = Numbers::of(13, 0);
+        for _ in 0..20 {
+            sides.query(&any_query(&certificate, &mut numbers))?;
+            sides.poll(&any_poll(&certificate, sides.own.mode, &mut numbers))?;
+        }
+        let written = sides.write(longest.len() + 9, 5)?;
+        assert_eq!(written, Report::at(0, longest.len()));
+        Ok(())
+    };
+    agreed().unwrap_or_else(|difference| panic!("{difference:?}"));
 }
 
 #[test]

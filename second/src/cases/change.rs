@@ -1,7 +1,8 @@
 //! A stored certificate, and its changes.
 
+use crate::certificate::Kind;
 use crate::text::{
-    bytes_of, field_named, records_of_line, Field, Record, Words, ENTRY, HEADER, LINK, TURN,
+    bytes_of, records_of_line, Field, Record, Words, ENTRY, HEADER, LINK, MODE, START, TURN,
 };
 
 /// A certificate as stored: records, or bytes once a change of bytes has been made.
@@ -12,7 +13,9 @@ pub enum Body {
 }
 
 /// Kinds whose records are counted in `replace`, `remove` and `insert`.
-const COUNTED: [&str; 6] = ["link", "turn", "signal", "grid", "arrivals", "entry"];
+const COUNTED: [&str; 7] = [
+    "link", "turn", "signal", "mode", "grid", "arrivals", "entry",
+];
 
 impl Body {
     pub fn bytes(&self) -> Result<Vec<u8>, String> {
@@ -77,34 +80,81 @@ fn place(records: &[Record], words: &mut Words, kinds: &[&str]) -> Result<usize,
 
 /// `set KIND I FIELD V ..`
 fn set(records: &mut [Record], words: &mut Words) -> Result<(), String> {
-    let place = place(records, words, &["header", "link", "turn", "entry"])?;
+    let place = place(records, words, &["header", "link", "turn", "mode", "entry"])?;
     match &mut records[place] {
-        Record::Header(counts) => set_fields(words, &HEADER, |at, value| counts[at] = Some(value)),
-        Record::Link(values) => set_fields(words, &LINK, |at, value| values[at] = value),
-        Record::Turn(values) => set_fields(words, &TURN, |at, value| values[at] = value),
-        Record::Entry(values) => set_fields(words, &ENTRY, |at, value| values[at] = value),
+        Record::Header { kind, counts } => set_header(words, kind, counts),
+        Record::Link { values, start } => set_link(words, values, start),
+        Record::Turn(values) => set_values(words, &TURN, values),
+        Record::Mode(values) => set_values(words, &MODE, values),
+        Record::Entry(values) => set_values(words, &ENTRY, values),
         _ => Err("expected a record with named fields".to_string()),
     }
 }
 
-/// Takes names and values to the end of the line, each name at most once.
-fn set_fields(
+/// Counts by their names, and the kind as `kind HD` or `kind H2`.
+fn set_header(
     words: &mut Words,
-    fields: &[Field],
-    mut put: impl FnMut(usize, u16),
+    kind: &mut Kind,
+    counts: &mut [Option<u16>; 6],
 ) -> Result<(), String> {
-    let names: Vec<&str> = fields.iter().map(|field| field.name).collect();
+    let names = [&["kind"][..], &names(&HEADER)].concat();
+    set_named(words, &names, |words, at| {
+        match at.checked_sub(1) {
+            None => *kind = kind_named(words)?,
+            Some(at) => counts[at] = Some(HEADER[at].take(words)?),
+        }
+        Ok(())
+    })
+}
+
+fn kind_named(words: &mut Words) -> Result<Kind, String> {
+    words.parse("`HD` or `H2`", |word| {
+        Kind::ALL.into_iter().find(|kind| kind.name() == word)
+    })
+}
+
+/// Fields of a link; it may have no start flow yet.
+fn set_link(
+    words: &mut Words,
+    values: &mut [u16; 6],
+    start: &mut Option<u16>,
+) -> Result<(), String> {
+    let names = [&names(&LINK)[..], &[START.name]].concat();
+    set_named(words, &names, |words, at| {
+        match LINK.get(at) {
+            Some(field) => values[at] = field.take(words)?,
+            None => *start = Some(START.take(words)?),
+        }
+        Ok(())
+    })
+}
+
+fn set_values(words: &mut Words, fields: &[Field], values: &mut [u16]) -> Result<(), String> {
+    set_named(words, &names(fields), |words, at| {
+        values[at] = fields[at].take(words)?;
+        Ok(())
+    })
+}
+
+fn names(fields: &[Field]) -> Vec<&'static str> {
+    fields.iter().map(|field| field.name).collect()
+}
+
+/// Takes names to the end of the line, each at most once; `set` takes what follows the name in this place.
+fn set_named(
+    words: &mut Words,
+    names: &[&str],
+    mut set: impl FnMut(&mut Words, usize) -> Result<(), String>,
+) -> Result<(), String> {
     let expected = format!("one of `{}`, each at most once", names.join("`, `"));
     let mut seen = Vec::new();
     loop {
         let at = words.parse(&expected, |word| {
-            field_named(fields, word).filter(|at| !seen.contains(at))
+            let at = names.iter().position(|name| *name == word);
+            at.filter(|at| !seen.contains(at))
         })?;
         seen.push(at);
-        put(
-            at,
-            words.number(fields[at].name, fields[at].most.into())? as u16,
-        );
+        set(words, at)?;
         if words.peek().is_none() {
             return Ok(());
         }

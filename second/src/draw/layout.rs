@@ -21,18 +21,21 @@ pub struct Label {
 }
 
 impl Label {
-    /// Two amounts a line.
+    /// One line above and one below.
     pub fn wide(link: &Link) -> Label {
+        let Label { above, below } = Label::narrow(link);
         Label {
-            above: vec![format!("cap {} · flow {}", link.cap, link.flow)],
-            below: vec![format!("safe {} · goal {}", link.safe, link.goal)],
+            above: vec![above.join(" · ")],
+            below: vec![below.join(" · ")],
         }
     }
 
-    /// One amount a line.
+    /// One amount a line; a start flow stands behind the flow.
     pub fn narrow(link: &Link) -> Label {
+        let mut above = vec![format!("cap {}", link.cap), format!("flow {}", link.flow)];
+        above.extend(link.start.map(|start| format!("start {start}")));
         Label {
-            above: vec![format!("cap {}", link.cap), format!("flow {}", link.flow)],
+            above,
             below: vec![format!("safe {}", link.safe), format!("goal {}", link.goal)],
         }
     }
@@ -44,6 +47,11 @@ impl Label {
             std::mem::swap(&mut self.above, &mut self.below);
         }
         self
+    }
+
+    /// Lines on the side that has more of them.
+    fn height(&self) -> usize {
+        self.above.len().max(self.below.len())
     }
 
     pub fn width(&self) -> i32 {
@@ -68,6 +76,8 @@ pub struct Layout {
     pub straight: Vec<Straight>,
     /// Labels along the line have one amount a line.
     pub narrow: bool,
+    /// The most lines that such a label has on one side; 0 where no link runs along the line.
+    lines: usize,
     pub lanes: Vec<Lane>,
 }
 
@@ -83,7 +93,10 @@ impl Layout {
         }
         let straight = straight_links(&along, &places);
         let taken: Vec<usize> = straight.iter().map(|one| one.link).collect();
+        let label = if narrow { Label::narrow } else { Label::wide };
+        let lines = taken.iter().map(|&link| label(&links[link]).height());
         Layout {
+            lines: lines.max().unwrap_or(0),
             lanes: lanes(links, &order, &places, &taken),
             junctions: order.into_iter().zip(places).collect(),
             straight,
@@ -93,10 +106,9 @@ impl Layout {
 
     /// What the line of junctions needs above it and below it.
     pub fn half(&self) -> i32 {
-        match (self.straight.is_empty(), self.narrow) {
-            (true, _) => RADIUS + 2,
-            (false, false) => 26,
-            (false, true) => 38,
+        match self.lines {
+            0 => RADIUS + 2,
+            lines => 14 + 12 * lines as i32,
         }
     }
 

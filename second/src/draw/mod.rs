@@ -16,7 +16,7 @@ mod svg;
 mod tables;
 mod verdict;
 
-use crate::certificate::Certificate;
+use crate::certificate::{Certificate, Kind};
 use crate::judging::judge;
 use crate::reading::read;
 use crate::report::Verdict;
@@ -27,6 +27,12 @@ use slice::{link_intervals, Slice};
 use style::{Style, LEFT, RIGHT};
 use svg::{Anchor, Svg};
 
+/// What start flows and modes are in an H2 certificate.
+const START_WORDS: &str = "Start is the most that a link sends in a green step after a red one.";
+const MEMORY_WORDS: &str =
+    "Each mode remembers the signal shown before: a green link that was red in it sends at most \
+    its start flow.";
+
 /// The picture as SVG, and the verdict that it shows. The cells drawn are those of the two links named, else of the
 /// first two. Links that cannot be drawn are told as a fault; a certificate that cannot be read has nothing but words.
 pub fn draw(bytes: &[u8], links: Option<[usize; 2]>) -> Result<(String, Verdict), String> {
@@ -35,7 +41,8 @@ pub fn draw(bytes: &[u8], links: Option<[usize; 2]>) -> Result<(String, Verdict)
         Err(refusal) => {
             let verdict = Verdict::refused(refusal);
             let mut page = Page::new(verdict);
-            page.verdict(&verdict::reading_details(refusal));
+            let headline = verdict::unread_headline(refusal, bytes);
+            page.verdict(&headline, &verdict::reading_details(refusal));
             return Ok((page.finish(), verdict));
         }
     };
@@ -44,7 +51,8 @@ pub fn draw(bytes: &[u8], links: Option<[usize; 2]>) -> Result<(String, Verdict)
     let mut page = Page::new(verdict);
     page.network(&certificate);
     page.policy(&certificate, &slice);
-    page.verdict(&verdict::details(&certificate, &slice, verdict));
+    let details = verdict::details(&certificate, &slice, verdict);
+    page.verdict(&verdict::headline(verdict), &details);
     Ok((page.finish(), verdict))
 }
 
@@ -100,6 +108,9 @@ impl Page {
             "Circles are junctions, arrows links with their numbers. Links from the left edge come in from outside. \
              Amounts are in vehicles.",
         );
+        if certificate.kind == Kind::H2 {
+            self.paragraph(START_WORDS);
+        }
         let report = self.verdict.report;
         let marked = (report.number == 10).then_some(report.b as usize);
         let top = self.bottom + 12;
@@ -111,6 +122,9 @@ impl Page {
     fn policy(&mut self, certificate: &Certificate, slice: &Slice) {
         self.heading("Policy");
         self.paragraph(&slice_words(certificate, slice));
+        if certificate.kind == Kind::H2 {
+            self.paragraph(MEMORY_WORDS);
+        }
         let report = self.verdict.report;
         let shades = Shades::of(certificate, slice);
         let top = self.bottom + 12;
@@ -130,13 +144,12 @@ impl Page {
         self.bottom = panels.bottom();
     }
 
-    fn verdict(&mut self, lines: &[String]) {
+    fn verdict(&mut self, headline: &str, lines: &[String]) {
         self.bottom += 22;
-        let text = verdict::headline(self.verdict);
         let alarm = !self.verdict.is_accepted();
         let place = (LEFT, self.bottom);
         self.svg
-            .text_or_alarm(Style::Heading, alarm, place, Anchor::Start, &text);
+            .text_or_alarm(Style::Heading, alarm, place, Anchor::Start, headline);
         self.bottom += 4;
         for line in lines {
             self.paragraph(line);

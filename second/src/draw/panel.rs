@@ -19,14 +19,23 @@ pub struct Panel<'a> {
 impl Panel<'_> {
     pub fn draw(&self, svg: &mut Svg) {
         let grid = self.panels.grid(self.mode);
-        let title = format!("Mode {}", self.mode);
-        svg.text(Style::Strong, (grid.x, grid.y - 37), Anchor::Start, &title);
+        let place = (grid.x, grid.y - 37);
+        svg.text(Style::Strong, place, Anchor::Start, &self.title());
         self.fills(svg);
         self.edges(svg, grid);
         for limit in self.limits() {
             limit.draw(svg, grid);
         }
         self.cell_texts(svg);
+    }
+
+    /// The mode, and the signal that it remembers.
+    fn title(&self) -> String {
+        let mode = self.mode;
+        match self.certificate.memory.get(mode) {
+            Some(signal) => format!("Mode {mode}, after signal {signal}"),
+            None => format!("Mode {mode}"),
+        }
     }
 
     /// The entry of a cell in this mode.

@@ -14,13 +14,25 @@ pub fn headline(verdict: Verdict) -> String {
         return accepted(verdict).trim_end().to_string();
     }
     let report = verdict.report;
+    refused(report, reason(report.number))
+}
+
+/// The first line for bytes that cannot be read. Their mark at place A tells apart records that share a number.
+pub fn unread_headline(report: Report, bytes: &[u8]) -> String {
+    let record = &bytes[report.a as usize..];
+    if report.number == 3 && record.starts_with(b"H2") {
+        return refused(report, "a count of the header (H2) is out of bounds");
+    }
+    if report.number == 6 && record.starts_with(b"MD") {
+        return refused(report, "a mode (MD) names a missing signal");
+    }
+    refused(report, reason(report.number))
+}
+
+fn refused(report: Report, reason: &str) -> String {
     format!(
-        "refused {}: {} (A {}, B {}, count {})",
-        report.number,
-        reason(report.number),
-        report.a,
-        report.b,
-        report.count
+        "refused {}: {reason} (A {}, B {}, count {})",
+        report.number, report.a, report.b, report.count
     )
 }
 
@@ -42,11 +54,12 @@ fn reason(number: u32) -> &'static str {
         14 => "successor not listed",
         15 => "successor's rank not lower",
         22 => "an entry (EN) is not above the one before by cell and mode",
+        23 => "an entry's (EN) next mode remembers another signal than the entry's",
         _ => "refused",
     }
 }
 
-/// What the places of a refusal of 1 to 9 or 22 mean.
+/// What the places of a refusal of 1 to 9, 22 or 23 mean.
 pub fn reading_details(report: Report) -> Vec<String> {
     let what = match report.number {
         1 => "the record that is due starts",

@@ -1,7 +1,7 @@
 //! Bytes to text.
 
 use super::line::green_links;
-use crate::certificate::Certificate;
+use crate::certificate::{Certificate, Kind, Link};
 use crate::reading::read;
 use crate::report::Report;
 
@@ -14,23 +14,10 @@ pub fn decode(bytes: &[u8]) -> Result<String, Report> {
     Ok(lines.join("\n"))
 }
 
-/// The header, links, turns and signals.
+/// The header, links, turns, signals and, in an H2 certificate, modes.
 fn network_lines(certificate: &Certificate) -> Vec<String> {
-    let mut lines = vec![format!(
-        "header links {} turns {} signals {} modes {} arrivals {} entries {}",
-        certificate.links.len(),
-        certificate.turns.len(),
-        certificate.signals.len(),
-        certificate.modes,
-        certificate.arrivals.len(),
-        certificate.entries.len()
-    )];
-    for link in &certificate.links {
-        lines.push(format!(
-            "link tail {} head {} cap {} flow {} safe {} goal {}",
-            link.tail, link.head, link.cap, link.flow, link.safe, link.goal
-        ));
-    }
+    let mut lines = vec![header_line(certificate)];
+    lines.extend(certificate.links.iter().map(link_line));
     for turn in &certificate.turns {
         lines.push(format!(
             "turn from {} to {} share {} pull {}",
@@ -40,7 +27,40 @@ fn network_lines(certificate: &Certificate) -> Vec<String> {
     for &green in &certificate.signals {
         lines.push(format!("signal green {}", green_links(green)));
     }
+    for signal in &certificate.memory {
+        lines.push(format!("mode signal {signal}"));
+    }
     lines
+}
+
+fn header_line(certificate: &Certificate) -> String {
+    let kind = match certificate.kind {
+        Kind::Hd => "",
+        Kind::H2 => "kind H2 ",
+    };
+    format!(
+        "header {kind}links {} turns {} signals {} modes {} arrivals {} entries {}",
+        certificate.links.len(),
+        certificate.turns.len(),
+        certificate.signals.len(),
+        certificate.modes,
+        certificate.arrivals.len(),
+        certificate.entries.len()
+    )
+}
+
+fn link_line(link: &Link) -> String {
+    let start = link.start.map(|start| format!(" start {start}"));
+    format!(
+        "link tail {} head {} cap {} flow {} safe {} goal {}{}",
+        link.tail,
+        link.head,
+        link.cap,
+        link.flow,
+        link.safe,
+        link.goal,
+        start.unwrap_or_default()
+    )
 }
 
 /// The grid, arrival boxes and entries.

@@ -5,6 +5,7 @@ use super::line::records_of_line;
 use super::record::Record;
 use super::words::numbered_lines;
 use super::Fault;
+use crate::certificate::Kind;
 
 /// Turns the text of a certificate into its bytes.
 pub fn encode(text: &str) -> Result<Vec<u8>, Fault> {
@@ -24,7 +25,11 @@ pub fn records_of(mut records: Vec<Record>) -> Result<Vec<Record>, String> {
         return Err("expected an `end` line before the end of the text".to_string());
     }
     if !records.iter().any(|record| record.kind() == "header") {
-        records.insert(0, Record::Header([None; 6]));
+        let header = Record::Header {
+            kind: Kind::Hd,
+            counts: [None; 6],
+        };
+        records.insert(0, header);
     }
     Ok(records)
 }
@@ -35,7 +40,7 @@ pub fn bytes_of(records: &[Record]) -> Result<Vec<u8>, String> {
     let mut bytes = Vec::new();
     for record in records {
         let mut counts = [0; 6];
-        if let Record::Header(given) = record {
+        if let Record::Header { counts: given, .. } = record {
             counts = header_counts(given, &taken)?;
         }
         record.put(&counts, &mut bytes);
@@ -59,19 +64,28 @@ fn header_counts(given: &[Option<u16>; 6], taken: &[usize; 6]) -> Result<[u16; 6
     Ok(counts)
 }
 
-/// The counts of HD as the lines have them.
+/// The counts of the header as the lines have them.
 fn counts_taken(records: &[Record]) -> [usize; 6] {
     let of_kind = |kind| records.iter().filter(|r| r.kind() == kind).count();
-    let modes = records.iter().map(|record| match record {
-        Record::Entry([_, mode, _, next, _]) => 1 + usize::from(*mode.max(next)),
-        _ => 1,
-    });
+    let modes = match of_kind("mode") {
+        0 => modes_of_entries(records),
+        count => count,
+    };
     [
         of_kind("link"),
         of_kind("turn"),
         of_kind("signal"),
-        modes.max().unwrap_or(1),
+        modes,
         of_kind("arrivals"),
         of_kind("entry"),
     ]
+}
+
+/// 1 + the greatest mode or next mode of the entries, and 1 if there is none.
+fn modes_of_entries(records: &[Record]) -> usize {
+    let modes = records.iter().map(|record| match record {
+        Record::Entry([_, mode, _, next, _]) => 1 + usize::from(*mode.max(next)),
+        _ => 1,
+    });
+    modes.max().unwrap_or(1)
 }

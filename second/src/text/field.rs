@@ -1,5 +1,7 @@
 //! The named fields of records, in the order of their bytes.
 
+use super::words::Words;
+
 /// A field: its name, and the greatest number that fits it.
 #[derive(Clone, Copy, Debug, PartialEq, Eq)]
 pub struct Field {
@@ -35,7 +37,12 @@ pub const LINK: [Field; 6] = [
     wide("goal"),
 ];
 
+/// A link may end with its start flow.
+pub const START: Field = wide("start");
+
 pub const TURN: [Field; 4] = [byte("from"), byte("to"), byte("share"), wide("pull")];
+
+pub const MODE: [Field; 1] = [byte("signal")];
 
 pub const ENTRY: [Field; 5] = [
     wide("cell"),
@@ -46,6 +53,11 @@ pub const ENTRY: [Field; 5] = [
 ];
 
 impl Field {
+    /// Takes its number.
+    pub fn take(&self, words: &mut Words) -> Result<u16, String> {
+        Ok(words.number(self.name, self.most.into())? as u16)
+    }
+
     /// Adds the value's bytes, high byte first.
     pub fn put(&self, value: u16, bytes: &mut Vec<u8>) {
         if self.most > 255 {
@@ -53,9 +65,4 @@ impl Field {
         }
         bytes.push((value & 255) as u8);
     }
-}
-
-/// The place of the field with this name.
-pub fn field_named(fields: &[Field], name: &str) -> Option<usize> {
-    fields.iter().position(|field| field.name == name)
 }

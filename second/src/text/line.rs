@@ -1,20 +1,23 @@
 //! Reading one line of the text form.
 
-use super::field::{Field, ENTRY, HEADER, LINK, TURN};
+use super::field::{Field, ENTRY, HEADER, LINK, MODE, START, TURN};
 use super::record::Record;
 use super::words::{decimal, Words};
+use crate::certificate::{is_green, Kind};
 
 const WIDE: u64 = 65_535;
 
 /// The records of a line: one, but for an `entry` line with ranges.
 pub fn records_of_line(words: &mut Words) -> Result<Vec<Record>, String> {
-    let kinds = "`header`, `link`, `turn`, `signal`, `grid`, `arrivals`, `entry`, `end` or `bytes`";
+    let kinds =
+        "`header`, `link`, `turn`, `signal`, `mode`, `grid`, `arrivals`, `entry`, `end` or `bytes`";
     let before = words.clone();
     let records = match words.take(kinds)? {
-        "header" => vec![Record::Header(header_counts(words)?)],
-        "link" => vec![Record::Link(named_values(words, &LINK)?)],
+        "header" => vec![header(words)?],
+        "link" => vec![link(words)?],
         "turn" => vec![Record::Turn(named_values(words, &TURN)?)],
         "signal" => vec![Record::Signal(green_byte(words)?)],
+        "mode" => vec![Record::Mode(named_values(words, &MODE)?)],
         "grid" => vec![grid(words)?],
         "arrivals" => vec![Record::Arrivals(arrival_pairs(words)?)],
         "entry" => entries(words)?,
@@ -26,25 +29,36 @@ pub fn records_of_line(words: &mut Words) -> Result<Vec<Record>, String> {
     Ok(records)
 }
 
-/// Counts of the header, each of which may be left out.
-fn header_counts(words: &mut Words) -> Result<[Option<u16>; 6], String> {
+/// Kind and counts of the header, each of which may be left out.
+fn header(words: &mut Words) -> Result<Record, String> {
+    let mut kind = Kind::Hd;
+    if words.takes("kind") {
+        kind = Kind::H2;
+        words.must_take(kind.name())?;
+    }
     let mut counts = [None; 6];
     for (count, field) in counts.iter_mut().zip(&HEADER) {
         if words.takes(field.name) {
-            *count = Some(value(words, field)?);
+            *count = Some(field.take(words)?);
         }
     }
     if words.peek().is_some() {
         return words.wrong(
-            "`links`, `turns`, `signals`, `modes`, `arrivals` and `entries`, each at most once and in this order",
+            "`kind H2`, `links`, `turns`, `signals`, `modes`, `arrivals` and `entries`, \
+             each at most once and in this order",
         );
     }
-    Ok(counts)
+    Ok(Record::Header { kind, counts })
 }
 
-/// The number of a field.
-fn value(words: &mut Words, field: &Field) -> Result<u16, String> {
-    Ok(words.number(field.name, field.most.into())? as u16)
+/// A link, with or without its start flow.
+fn link(words: &mut Words) -> Result<Record, String> {
+    let values = named_values(words, &LINK)?;
+    let mut start = None;
+    if words.takes(START.name) {
+        start = Some(START.take(words)?);
+    }
+    Ok(Record::Link { values, start })
 }
 
 /// Every field with its name, in order.
@@ -55,7 +69,7 @@ fn named_values<const N: usize>(
     let mut values = [0; N];
     for (place, field) in values.iter_mut().zip(fields) {
         words.must_take(field.name)?;
-        *place = value(words, field)?;
+        *place = field.take(words)?;
     }
     Ok(values)
 }
@@ -82,7 +96,7 @@ pub fn green_links(green: u8) -> String {
     if green == 0 {
         return "none".to_string();
     }
-    let links = (0..8).filter(|&link| crate::certificate::is_green(green, link));
+    let links = (0..8).filter(|&link| is_green(green, link));
     links
         .map(|link| link.to_string())
         .collect::<Vec<_>>()

@@ -1,15 +1,24 @@
 //! One record as a line writes it.
 
-use super::field::{Field, ENTRY, HEADER, LINK, TURN};
+use super::field::{Field, ENTRY, HEADER, LINK, MODE, START, TURN};
+use crate::certificate::Kind;
 
 /// Numbers fit their fields; nothing else is known of them.
 #[derive(Clone, Debug, PartialEq, Eq)]
 pub enum Record {
     /// Counts that are not given are taken from the other records.
-    Header([Option<u16>; 6]),
-    Link([u16; 6]),
+    Header {
+        kind: Kind,
+        counts: [Option<u16>; 6],
+    },
+    /// A start flow that is not given is left out.
+    Link {
+        values: [u16; 6],
+        start: Option<u16>,
+    },
     Turn([u16; 4]),
     Signal(u8),
+    Mode([u16; 1]),
     Grid {
         count: u8,
         cuts: Vec<u16>,
@@ -26,10 +35,11 @@ impl Record {
     /// The first word of its line.
     pub fn kind(&self) -> &'static str {
         match self {
-            Record::Header(_) => "header",
-            Record::Link(_) => "link",
+            Record::Header { .. } => "header",
+            Record::Link { .. } => "link",
             Record::Turn(_) => "turn",
             Record::Signal(_) => "signal",
+            Record::Mode(_) => "mode",
             Record::Grid { .. } => "grid",
             Record::Arrivals(_) => "arrivals",
             Record::Entry(_) => "entry",
@@ -38,13 +48,17 @@ impl Record {
         }
     }
 
-    /// Adds its bytes; `counts` are the six of HD.
+    /// Adds its bytes; `counts` are the six of the header.
     pub fn put(&self, counts: &[u16; 6], bytes: &mut Vec<u8>) {
         match self {
-            Record::Header(_) => put_fields(b"HD", &HEADER, counts, bytes),
-            Record::Link(values) => put_fields(b"LK", &LINK, values, bytes),
+            Record::Header { kind, .. } => put_fields(kind.mark(), &HEADER, counts, bytes),
+            Record::Link { values, start } => {
+                put_fields(b"LK", &LINK, values, bytes);
+                start.iter().for_each(|&start| START.put(start, bytes));
+            }
             Record::Turn(values) => put_fields(b"TN", &TURN, values, bytes),
             Record::Signal(green) => bytes.extend([b'S', b'G', *green]),
+            Record::Mode(values) => put_fields(b"MD", &MODE, values, bytes),
             Record::Grid { count, cuts } => {
                 bytes.extend([b'G', b'R', *count]);
                 cuts.iter().for_each(|cut| bytes.extend(cut.to_be_bytes()));

@@ -11,10 +11,27 @@ pub struct Large {
 }
 
 impl Large {
-    /// Eight links between two junctions, 32 turns, 16 signals and 8 arrival boxes, with amounts as great as they may be;
-    /// at most 4,096 entries.
+    /// Eight links between two junctions, 32 turns, 16 signals and 8 arrival boxes, with amounts as great as they may
+    /// be; at most 4,096 entries.
     pub fn bytes(&self) -> Vec<u8> {
-        let mut text = network();
+        let signal = |cell: usize, mode: usize| (cell * 5 + mode) % 16;
+        bytes(&(network() + &self.policy(signal)))
+    }
+
+    /// The same as H2. Mode m remembers signal 2 × m + 1; an entry has the signal that its next mode remembers.
+    pub fn start_bytes(&self) -> Vec<u8> {
+        let remembered = |mode: usize| 2 * mode + 1;
+        let mut text = network().replace("goal 10000\n", "goal 10000 start 500\n");
+        for mode in 0..self.modes {
+            text += &format!("mode signal {}\n", remembered(mode));
+        }
+        let signal = |_, mode: usize| remembered((mode + 1) % self.modes);
+        bytes(&("header kind H2\n".to_string() + &text + &self.policy(signal)))
+    }
+
+    /// Grid, arrival boxes, entries and end; `signal` tells an entry's by cell and mode.
+    fn policy(&self, signal: impl Fn(usize, usize) -> usize) -> String {
+        let mut text = String::new();
         for count in self.counts {
             let cuts: Vec<String> = (1..count)
                 .map(|i| (u32::from(i) * 10_000 / u32::from(count)).to_string())
@@ -30,11 +47,11 @@ impl Large {
         let pairs = (0..cells).flat_map(|cell| (0..self.modes).map(move |mode| (cell, mode)));
         let listed = pairs.filter_map(|(cell, mode)| Some((cell, mode, (self.rank)(cell, mode)?)));
         for (cell, mode, rank) in listed.take(4_096) {
-            let (signal, next) = ((cell * 5 + mode) % 16, (mode + 1) % self.modes);
+            let (signal, next) = (signal(cell, mode), (mode + 1) % self.modes);
             text +=
                 &format!("entry cell {cell} mode {mode} signal {signal} next {next} rank {rank}\n");
         }
-        bytes(&(text + "end\n"))
+        text + "end\n"
     }
 }
 

@@ -32,6 +32,27 @@ entry cell 2 mode 0 signal 0 next 0 rank 2
 end
 ";
 
+/// An H2 certificate of 107 bytes: L's link with a start flow, and modes that remember green, red and green. Only in
+/// mode 1, and so from the last cell alone, the link sends up to its start flow.
+pub const START_TEXT: &str = "\
+header kind H2
+link tail 0 head 1 cap 10 flow 6 safe 10 goal 5 start 2
+signal green 0
+signal green none
+mode signal 0
+mode signal 1
+mode signal 0
+grid 5 8
+arrivals 0-2
+entry cell 0 mode 0 signal 0 next 0 rank 0
+entry cell 1 mode 0 signal 0 next 0 rank 1
+entry cell 1 mode 2 signal 0 next 0 rank 1
+entry cell 2 mode 0 signal 0 next 0 rank 2
+entry cell 2 mode 1 signal 0 next 2 rank 3
+entry cell 2 mode 2 signal 0 next 0 rank 2
+end
+";
+
 /// L beside a red link that is full in its only interval; under every entry it may exceed its cap.
 pub const BESIDE: &str = "\
 link tail 0 head 1 cap 10 flow 6 safe 10 goal 5
@@ -80,6 +101,35 @@ pub fn crossing() -> Vec<u8> {
     }
     let one = "entry cell 0..5 mode 0 signal 0 next 1 rank 0\n";
     bytes(&CROSSING.replace(one, &entries))
+}
+
+/// The H2 certificate.
+pub fn start() -> Vec<u8> {
+    bytes(START_TEXT)
+}
+
+/// The H2 certificate with one part of its text changed.
+pub fn start_with(old: &str, new: &str) -> Vec<u8> {
+    assert!(START_TEXT.contains(old), "there is no `{old}`");
+    bytes(&START_TEXT.replace(old, new))
+}
+
+/// The text of an H2 certificate as HD: without the kind, start flows and modes.
+pub fn as_hd(text: &str) -> String {
+    let lines = text.lines().filter(|line| !line.starts_with("mode "));
+    let lines = lines.map(|line| match line.split_once(" start ") {
+        Some((link, _)) => link.to_string(),
+        None => line.replace("header kind H2", "header"),
+    });
+    lines.map(|line| line + "\n").collect()
+}
+
+/// The crossing as H2: its modes remember each other's signal.
+pub fn start_crossing() -> String {
+    let text = CROSSING.replace("goal 40\n", "goal 40 start 5\n");
+    let modes = "signal green 1 2\nmode signal 1\nmode signal 0\n";
+    let text = text.replace("signal green 1 2\n", modes);
+    format!("header kind H2\n{text}")
 }
 
 /// L with one part of its text changed.

@@ -1,13 +1,14 @@
 -- `reading::check_network` meets its contract. Assumes nothing.
 use mathlib.Core.Path.{_≡_}
-use Rattle.certificate.specs.Reading.{linksFault, turnsFault, signalsFault}
+use Rattle.certificate.specs.Reading.{linksFault, turnsFault, signalsFault, modesFault}
 use Rattle.reading.specs.ReadingResults.{networkFault}
 use Rattle.octets.proofs.Cases.{first, second}
+use native.Mathlib.Omega.{arith}
 use borrow.Author.Needs.{needs}
 use Rattle.reading.proofs.check_network.Statement.{statement}
 use Rattle.reading.proofs.check_network.Tie as tie
 
--- what the tests of the links and of the turns answered
+-- what the tests of the links, of the turns and of the signals answered
 links-said : (c : tie.After-check-links) → c .check-links .result ≡ linksFault (c .before .before .before .args .s .now)
 unfolding linksFault
 links-said c = rw (← c .before .links-of .ensures .0) (c .check-links .ensures)
@@ -15,6 +16,10 @@ links-said c = rw (← c .before .links-of .ensures .0) (c .check-links .ensures
 turns-said : (c : tie.After-check-turns) → c .check-turns .result ≡ turnsFault (c .before .before .before .before .before .before .before .args .s .now)
 unfolding turnsFault
 turns-said c = rw (← c .before .turns-of .ensures .0) (c .check-turns .ensures)
+
+signals-said : (c : tie.After-check-signals) → c .check-signals .result ≡ signalsFault (c .before .before .before .before .before .before .before .before .before .before .before .args .s .now)
+unfolding signalsFault
+signals-said c = rw (← c .before .signals-of .ensures .0) (c .check-signals .ensures)
 
 links-of-requires : tie.Need-links-of-requires
 links-of-requires c κs = search needs
@@ -43,10 +48,31 @@ check-signals-requires : tie.Need-check-signals-requires
 check-signals-requires c κs = search needs
 
 returns-3 : tie.Need-returns-3
-unfolding networkFault signalsFault
+unfolding networkFault
 returns-3 c =
-    second _ _ _ _ (links-said (c .before .before .before .before .before .before .before .before)) (c .before .before .before .before .before .before .if1 .left)
-    (second _ _ _ _ (turns-said (c .before .before .before .before)) (c .before .before .if2 .left) (rw (← c .before .signals-of .ensures .0) (c .check-signals .ensures)))
+    let turn = c .before .before .before .before .before .before in
+    second _ _ _ _ (links-said (turn .before .before .before .before)) (turn .before .before .if1 .left)
+    (second _ _ _ _ (turns-said turn) (c .before .before .before .before .if2 .left) (first _ _ _ (signals-said (c .before .before)) (c .if3 .taken)))
+
+modes-of-requires : tie.Need-modes-of-requires
+modes-of-requires c κs = search needs
+
+records-of-requires : tie.Need-records-of-requires
+records-of-requires c κs = search needs
+
+check-modes-requires : tie.Need-check-modes-requires
+check-modes-requires c κs =
+    let signal = c .before .before .before .before in
+    let given = signal .before .before .before .before .before .before .before .before .before .before .before .pre .1 in
+    (search needs, omega (arith, given .modes-most), given .modes-is, signal .before .signals-of .ensures .0)
+
+returns-4 : tie.Need-returns-4
+unfolding networkFault modesFault
+returns-4 c =
+    let signal = c .before .before .before .before .before in
+    let turn = signal .before .before .before .before in
+    second _ _ _ _ (links-said (turn .before .before .before .before)) (turn .before .before .if1 .left)
+    (second _ _ _ _ (turns-said turn) (signal .before .before .if2 .left) (second _ _ _ _ (signals-said signal) (c .before .before .before .if3 .left) (rw (← c .before .records-of .ensures .0) (c .check-modes .ensures))))
 
 pub check-network-spec : {M : Type 1} → statement M
 check-network-spec =
@@ -60,4 +86,8 @@ check-network-spec =
     returns-2
     signals-of-requires
     check-signals-requires
-    returns-3)
+    returns-3
+    modes-of-requires
+    records-of-requires
+    check-modes-requires
+    returns-4)

@@ -1,5 +1,5 @@
 -- `reading::starts_of` meets its contract. Assumes nothing.
-use Rattle.certificate.specs.Layout.{turnsStart, signalsStart, gridStart}
+use Rattle.reading.proofs.Stages.{starts-are}
 use borrow.Author.Needs.{needs}
 use Rattle.reading.proofs.starts_of.Statement.{statement}
 use Rattle.reading.proofs.starts_of.Tie as tie
@@ -22,9 +22,17 @@ signals-of-requires c κs = search needs
 signal-at-requires : tie.Need-signal-at-requires
 signal-at-requires c κs = search needs
 
+modes-of-requires : tie.Need-modes-of-requires
+modes-of-requires c κs = search needs
+
+records-of-requires : tie.Need-records-of-requires
+records-of-requires c κs = search needs
+
+mode-at-requires : tie.Need-mode-at-requires
+mode-at-requires c κs = search needs
+
 returns : tie.Need-returns
-unfolding turnsStart signalsStart gridStart
-returns c = search needs
+returns c = search starts-are
 
 pub starts-of-spec : {M : Type 1} → statement M
 starts-of-spec =
@@ -36,4 +44,7 @@ starts-of-spec =
     turn-at-requires
     signals-of-requires
     signal-at-requires
+    modes-of-requires
+    records-of-requires
+    mode-at-requires
     returns)

@@ -1,6 +1,6 @@
 -- `supply::others_of` meets its contract. Assumes nothing.
 use borrow.Author.Tests.{eq-eqb, ne-eqb}
-use Rattle.screening.proofs.Picking.{pick-yes, pick-no}
+use Rattle.octets.proofs.Picking.{pick-yes, pick-no}
 use Rattle.supply.proofs.others_of.Statement.{statement}
 use Rattle.supply.proofs.others_of.Tie as tie
 

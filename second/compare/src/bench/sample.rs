@@ -31,6 +31,8 @@ impl Sample {
             "typical" => ("typical", samples::typical()),
             "largest" => ("largest", samples::largest()),
             "worst" => ("worst", samples::worst()),
+            "typical H2" => ("typical H2", samples::h2::typical()),
+            "largest H2" => ("largest H2", samples::h2::largest()),
             _ => return Err(format!("{name}: no such certificate")),
         };
         let certificate = read_sound(&bytes).map_err(|refusal| format!("{name}: {refusal:?}"))?;

@@ -20,6 +20,8 @@ pub struct Flows {
     queue: [[i32; 16]; MOST],
     /// 100 × the least of edge and flow, by link.
     demand: [[i32; 16]; MOST],
+    /// 100 × start flow, by link.
+    most: [i32; MOST],
     /// pull × (cap − edge) of the link it turns into, by turn.
     supply: [[i32; 16]; 32],
 }
@@ -33,10 +35,12 @@ impl Flows {
             share: [0; 32],
             queue: [[0; 16]; MOST],
             demand: [[0; 16]; MOST],
+            most: [0; MOST],
             supply: [[0; 16]; 32],
         };
         for link in 0..network.links {
             let flow = i32::from(network.link[link].flow);
+            flows.most[link] = 100 * i32::from(network.link[link].start);
             for edge in 0..=network.counts[link] {
                 let queue = i32::from(network.edges[link][edge]);
                 flows.queue[link][edge] = 10_000 * queue;
@@ -59,28 +63,45 @@ impl Flows {
         flows
     }
 
-    /// The ends from a closed cell, given by the interval of each link, under a green byte.
+    /// The ends from a closed cell, given by the interval of each link, under a green byte shown after another one.
     ///
     /// A link's greatest next queue comes from high ends of it, of the links that turn into it and of those it turns
     /// into, and from low ends of the links beside it (same tail); its least one from the opposite ends.
-    pub fn ends(&self, green: u8, cell: &[usize; MOST]) -> Ends {
+    pub fn ends(&self, green: u8, before: u8, cell: &[usize; MOST]) -> Ends {
         let mut ends = Ends::default();
         for (link, &interval) in cell.iter().enumerate().take(self.links) {
             (ends.low[link], ends.high[link]) = ends_at(&self.queue[link], interval);
         }
-        let mut left = green;
+        let mut left = green & before;
         while left != 0 {
             let from = left.trailing_zeros() as usize;
             left &= left - 1;
-            self.send(from, cell, &mut ends);
+            let demand = ends_at(&self.demand[from & 7], cell[from & 7]);
+            self.send(from, demand, cell, &mut ends);
+        }
+        if green & !before != 0 {
+            self.start(green & !before, cell, &mut ends);
         }
         ends
     }
 
-    /// What one green link takes from its own ends and adds to those of the links that it turns into.
+    /// The same for green links that were red before.
+    #[inline(never)]
+    fn start(&self, green: u8, cell: &[usize; MOST], ends: &mut Ends) {
+        let mut left = green;
+        while left != 0 {
+            let from = left.trailing_zeros() as usize;
+            left &= left - 1;
+            let (low, high) = ends_at(&self.demand[from & 7], cell[from & 7]);
+            let most = self.most[from & 7];
+            self.send(from, (low.min(most), high.min(most)), cell, ends);
+        }
+    }
+
+    /// What one green link takes from its own ends and adds to those of the links that it turns into. The demand is what
+    /// it would send at its low and at its high end if there were room for it.
     #[inline]
-    fn send(&self, from: usize, cell: &[usize; MOST], ends: &mut Ends) {
-        let demand = ends_at(&self.demand[from & 7], cell[from & 7]);
+    fn send(&self, from: usize, demand: (i32, i32), cell: &[usize; MOST], ends: &mut Ends) {
         // Least supply at low ends, and the two least at high ends, where a supply is smaller.
         let (mut at_low, mut at_high, mut then) = (i32::MAX, i32::MAX, i32::MAX);
         let turns = self.first[from]..self.first[from + 1];

@@ -53,8 +53,8 @@ struct Judging<'a> {
     steps: Steps,
     lookup: Lookup<'a>,
     place: Place,
-    /// The cell and green byte that the ranges belong to.
-    imaged: Option<(u16, u8)>,
+    /// The cell, the green byte and the one before it that the ranges belong to.
+    imaged: Option<(u16, u8, u8)>,
     ranges: [Range; MOST],
     count: u64,
     overflows: u64,
@@ -71,10 +71,12 @@ impl Judging<'_> {
             return Err(Report::at(13, number));
         }
         let green = self.network.green[usize::from(entry.signal) & 15];
-        if self.imaged != Some((entry.cell, green)) {
-            let ends = self.flows.ends(green, &self.place.intervals);
+        let before = self.network.before[usize::from(entry.mode) & 7];
+        let imaged = Some((entry.cell, green, before));
+        if self.imaged != imaged {
+            let ends = self.flows.ends(green, before, &self.place.intervals);
             self.ranges = self.steps.ranges(&ends);
-            self.imaged = Some((entry.cell, green));
+            self.imaged = imaged;
         }
         let mut over = 0;
         for range in &self.ranges[..self.network.boxes] {

@@ -2,6 +2,8 @@
 
 /// Most links, and most arrival boxes.
 pub const MOST: usize = 8;
+/// Every link green.
+pub const ALL_GREEN: u8 = 0xFF;
 
 #[derive(Clone, Copy, Default)]
 pub struct Link {
@@ -11,6 +13,8 @@ pub struct Link {
     pub flow: u16,
     pub safe: u16,
     pub goal: u16,
+    /// The most that leaves in the first green step; in HD certificates the flow.
+    pub start: u16,
 }
 
 #[derive(Clone, Copy, Default)]
@@ -21,9 +25,11 @@ pub struct Turn {
     pub pull: u16,
 }
 
-/// Places beyond the counts are 0.
+/// Places beyond the counts are 0, but for those of `before`.
 #[derive(Clone, Default)]
 pub struct Network {
+    /// Is it opened by H2?
+    pub is_h2: bool,
     pub links: usize,
     pub turns: usize,
     pub signals: usize,
@@ -33,6 +39,10 @@ pub struct Network {
     pub link: [Link; MOST],
     pub turn: [Turn; 32],
     pub green: [u8; 16],
+    /// The signal that each mode remembers; 0 in HD certificates.
+    pub memory: [u8; MOST],
+    /// Its green byte. In HD certificates every link is green: none is held to its start flow.
+    pub before: [u8; MOST],
     /// Intervals of each link.
     pub counts: [usize; MOST],
     /// Edges of each link: 0, the cuts, cap.

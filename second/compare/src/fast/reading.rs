@@ -1,11 +1,17 @@
-//! Reading in one pass: refusals 1 to 11 and 22.
+//! Reading in one pass: refusals 1 to 11, 22 and 23.
+
+mod entries;
 
 use super::conditions::{flows, pull_sums};
-use super::network::{Entry, Link, Network, Turn};
+use super::network::{Entry, Link, Network, Turn, ALL_GREEN, MOST};
+use entries::entries;
 use second::Report;
 
 /// Bytes of an EN record.
 const ENTRY: usize = 9;
+/// Bytes of an LK record, with a start flow or without.
+const HD_LINK: usize = 12;
+const H2_LINK: usize = 14;
 
 /// A certificate that has passed every test before 12.
 pub struct Read<'a> {
@@ -14,7 +20,8 @@ pub struct Read<'a> {
     pub records: &'a [[u8; ENTRY]],
 }
 
-/// Reads all records into a network of zeros and tests both conditions. What `start` makes of the network is shown every entry by `put`.
+/// Reads all records into a network of zeros and tests both conditions. What `start` makes of the network is shown every
+/// entry by `put`.
 pub fn read<'a, T>(
     bytes: &'a [u8],
     network: &'a mut Network,
@@ -22,21 +29,23 @@ pub fn read<'a, T>(
     mut put: impl FnMut(&mut T, Entry),
 ) -> Result<(Read<'a>, T), Report> {
     let mut at = header(bytes, network)?;
-    for link in 0..network.links {
-        network.link[link] = link_at(bytes, at)?;
-        at += 12;
+    match network.is_h2 {
+        false => links::<HD_LINK>(bytes, &mut at, network)?,
+        true => links::<H2_LINK>(bytes, &mut at, network)?,
     }
     turns(bytes, &mut at, network)?;
-    for signal in 0..network.signals {
-        let green = record::<3>(bytes, at, b"SG")?[2];
-        must(6, at, u32::from(green) < 1 << network.links)?;
-        network.green[signal] = green;
-        at += 3;
+    signals(bytes, &mut at, network)?;
+    if network.is_h2 {
+        modes(bytes, &mut at, network)?;
     }
     grids(bytes, &mut at, network)?;
     arrivals(bytes, &mut at, network)?;
     let mut made = start(network);
-    let records = entries(bytes, at, network, |entry| put(&mut made, entry))?;
+    let each = |entry| put(&mut made, entry);
+    let records = match network.is_h2 {
+        false => entries::<false>(bytes, at, network, each)?,
+        true => entries::<true>(bytes, at, network, each)?,
+    };
     at += ENTRY * network.entries;
     record::<2>(bytes, at, b"ZZ")?;
     if bytes.len() > at + 2 {
@@ -82,9 +91,14 @@ fn wide(bytes: &[u8], at: usize) -> u16 {
     u16::from_be_bytes([bytes[at], bytes[at + 1]])
 }
 
-/// HD; tells the offset behind it.
+/// HD or H2; tells the offset behind it.
 fn header(bytes: &[u8], network: &mut Network) -> Result<usize, Report> {
-    let record = record::<9>(bytes, 0, b"HD")?;
+    network.is_h2 = bytes.starts_with(b"H2");
+    let record = match network.is_h2 {
+        false => record::<9>(bytes, 0, b"HD")?,
+        true => record::<9>(bytes, 0, b"H2")?,
+    };
+    network.before = [ALL_GREEN; MOST];
     network.links = record[2].into();
     network.turns = record[3].into();
     network.signals = record[4].into();
@@ -101,22 +115,41 @@ fn header(bytes: &[u8], network: &mut Network) -> Result<usize, Report> {
     Ok(9)
 }
 
-fn link_at(bytes: &[u8], at: usize) -> Result<Link, Report> {
-    let record = record::<12>(bytes, at, b"LK")?;
+/// LK records of so many bytes: 12, or 14 with the start flow at the end.
+fn links<const SIZE: usize>(
+    bytes: &[u8],
+    at: &mut usize,
+    network: &mut Network,
+) -> Result<(), Report> {
+    for link in 0..network.links {
+        network.link[link] = link_at::<SIZE>(bytes, *at)?;
+        *at += SIZE;
+    }
+    Ok(())
+}
+
+fn link_at<const SIZE: usize>(bytes: &[u8], at: usize) -> Result<Link, Report> {
+    let record = record::<SIZE>(bytes, at, b"LK")?;
+    let flow = wide(record, 6);
     let link = Link {
         tail: record[2],
         head: record[3],
         cap: wide(record, 4),
-        flow: wide(record, 6),
+        flow,
         safe: wide(record, 8),
         goal: wide(record, 10),
+        start: match SIZE {
+            H2_LINK => wide(record, 12),
+            _ => flow,
+        },
     };
     let holds = link.head >= 1
         && link.head != link.tail
         && (1..=10_000).contains(&link.cap)
         && (1..=link.cap).contains(&link.flow)
         && link.safe <= link.cap
-        && link.goal <= link.safe;
+        && link.goal <= link.safe
+        && (1..=link.flow).contains(&link.start);
     must(4, at, holds)?;
     Ok(link)
 }
@@ -144,6 +177,28 @@ fn turns(bytes: &[u8], at: &mut usize, network: &mut Network) -> Result<(), Repo
             pull,
         };
         *at += 7;
+    }
+    Ok(())
+}
+
+fn signals(bytes: &[u8], at: &mut usize, network: &mut Network) -> Result<(), Report> {
+    for signal in 0..network.signals {
+        let green = record::<3>(bytes, *at, b"SG")?[2];
+        must(6, *at, u32::from(green) < 1 << network.links)?;
+        network.green[signal] = green;
+        *at += 3;
+    }
+    Ok(())
+}
+
+/// MD records: the signal that each mode remembers.
+fn modes(bytes: &[u8], at: &mut usize, network: &mut Network) -> Result<(), Report> {
+    for mode in 0..network.modes {
+        let signal = record::<3>(bytes, *at, b"MD")?[2];
+        must(6, *at, usize::from(signal) < network.signals)?;
+        network.memory[mode] = signal;
+        network.before[mode] = network.green[usize::from(signal)];
+        *at += 3;
     }
     Ok(())
 }
@@ -190,52 +245,4 @@ fn arrivals(bytes: &[u8], at: &mut usize, network: &mut Network) -> Result<(), R
         *at += size;
     }
     Ok(())
-}
-
-fn entries<'a>(
-    bytes: &'a [u8],
-    at: usize,
-    network: &Network,
-    mut each: impl FnMut(Entry),
-) -> Result<&'a [[u8; ENTRY]], Report> {
-    let (whole, _) = bytes[at..].as_chunks::<ENTRY>();
-    let records = &whole[..whole.len().min(network.entries)];
-    let mut least = 0;
-    for (number, record) in records.iter().enumerate() {
-        let entry = Entry::of(record);
-        let key = usize::from(entry.cell) * 8 + usize::from(entry.mode);
-        // In this order for speed alone; which test fails is told by `refused`.
-        let holds = (record[..2] == *b"EN") & (key >= least) & names_exist(entry, network);
-        if !holds {
-            return Err(refused(record, at + ENTRY * number, network));
-        }
-        least = key + 1;
-        each(entry);
-    }
-    if records.len() < network.entries {
-        return Err(not_there(bytes, at + ENTRY * records.len(), b"EN"));
-    }
-    Ok(records)
-}
-
-/// Do cell, mode, signal and next mode exist? The keys of such entries ascend as their pairs do.
-#[inline]
-fn names_exist(entry: Entry, network: &Network) -> bool {
-    (usize::from(entry.cell) < network.cells)
-        & (usize::from(entry.mode) < network.modes)
-        & (usize::from(entry.signal) < network.signals)
-        & (usize::from(entry.next) < network.modes)
-}
-
-/// Why the record of an entry fails: by its mark, else by a name, else by its order.
-#[cold]
-fn refused(record: &[u8; ENTRY], at: usize, network: &Network) -> Report {
-    let number = if record[..2] != *b"EN" {
-        2
-    } else if !names_exist(Entry::of(record), network) {
-        9
-    } else {
-        22
-    };
-    Report::at(number, at)
 }

@@ -1,7 +1,7 @@
 //! Random arrival boxes.
 
 use crate::numbers::Numbers;
-use second::certificate::{Arrival, Certificate, Link, MOST_AMOUNT, MOST_LINKS};
+use second::certificate::{Arrival, Certificate, Greens, Kind, Link, MOST_AMOUNT, MOST_LINKS};
 use second::flow::{next_queues, FINER};
 use second::grid::{intervals, Cell};
 use second::image::image;
@@ -89,7 +89,7 @@ fn brim(certificate: &Certificate, numbers: &mut Numbers) -> Vec<Arrival> {
     arrivals
 }
 
-/// A link, and its greatest next queue from some cell under some signal without arrivals, over `FINER`.
+/// A link, and its greatest next queue from some cell under some signal, after any one, without arrivals, over `FINER`.
 struct Filled {
     link: usize,
     queue: i128,
@@ -114,9 +114,16 @@ impl Filled {
 
 fn any_filled(certificate: &Certificate, numbers: &mut Numbers) -> Filled {
     let cell = any_cell(certificate, numbers);
-    let green = numbers.pick(&certificate.signals);
+    let now = numbers.pick(&certificate.signals);
+    let greens = match certificate.kind {
+        Kind::Hd => Greens::same(now),
+        Kind::H2 => Greens {
+            now,
+            before: numbers.pick(&certificate.signals),
+        },
+    };
     let link = any_link(certificate, numbers);
-    let image = image(certificate, green, &cell, &vec![NONE; cell.len()]);
+    let image = image(certificate, greens, &cell, &vec![NONE; cell.len()]);
     let mut upper = [0; MOST_LINKS];
     for (queue, interval) in upper.iter_mut().zip(&cell) {
         *queue = interval.high.into();
@@ -124,7 +131,7 @@ fn any_filled(certificate: &Certificate, numbers: &mut Numbers) -> Filled {
     Filled {
         link,
         queue: image.high[link],
-        upper: next_queues(certificate, green, &upper, &[0; MOST_LINKS], 1)[link],
+        upper: next_queues(certificate, greens, &upper, &[0; MOST_LINKS], 1)[link],
     }
 }
 

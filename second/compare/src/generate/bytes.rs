@@ -1,22 +1,21 @@
 //! The bytes of a certificate.
 
 use second::certificate::{Certificate, Entry};
+use std::ops::Range;
+
+/// Bytes of HD or H2, of an LK without start flow, of a TN, and of an SG or MD.
+const HEADER: usize = 9;
+const LINK: usize = 12;
+const TURN: usize = 7;
+const SIGNAL: usize = 3;
 
 /// All records, as they stand; nothing is tested.
 pub fn bytes_of(certificate: &Certificate) -> Vec<u8> {
-    let mut out = b"HD".to_vec();
-    let counts = [
-        certificate.links.len() as u8,
-        certificate.turns.len() as u8,
-        certificate.signals.len() as u8,
-        certificate.modes,
-        certificate.arrivals.len() as u8,
-    ];
-    out.extend(counts);
-    put(&mut out, &[certificate.entries.len() as u16]);
+    let mut out = header(certificate);
     for link in &certificate.links {
         out.extend([b'L', b'K', link.tail, link.head]);
         put(&mut out, &[link.cap, link.flow, link.safe, link.goal]);
+        put(&mut out, link.start.as_slice());
     }
     for turn in &certificate.turns {
         out.extend([b'T', b'N', turn.from as u8, turn.to as u8, turn.share]);
@@ -24,6 +23,9 @@ pub fn bytes_of(certificate: &Certificate) -> Vec<u8> {
     }
     for &green in &certificate.signals {
         out.extend([b'S', b'G', green]);
+    }
+    for &signal in &certificate.memory {
+        out.extend([b'M', b'D', signal]);
     }
     for cuts in &certificate.cuts {
         out.extend([b'G', b'R', cuts.len() as u8 + 1]);
@@ -40,6 +42,33 @@ pub fn bytes_of(certificate: &Certificate) -> Vec<u8> {
     }
     out.extend(b"ZZ");
     out
+}
+
+fn header(certificate: &Certificate) -> Vec<u8> {
+    let mut out = certificate.kind.mark().to_vec();
+    let counts = [
+        certificate.links.len() as u8,
+        certificate.turns.len() as u8,
+        certificate.signals.len() as u8,
+        certificate.modes,
+        certificate.arrivals.len() as u8,
+    ];
+    out.extend(counts);
+    put(&mut out, &[certificate.entries.len() as u16]);
+    out
+}
+
+/// Where the LK records stand.
+pub fn links_place(certificate: &Certificate) -> Range<usize> {
+    let starts = certificate.links.iter().filter(|link| link.start.is_some());
+    HEADER..HEADER + LINK * certificate.links.len() + 2 * starts.count()
+}
+
+/// Where the MD records stand.
+pub fn modes_place(certificate: &Certificate) -> Range<usize> {
+    let turns = TURN * certificate.turns.len();
+    let start = links_place(certificate).end + turns + SIGNAL * certificate.signals.len();
+    start..start + SIGNAL * certificate.memory.len()
 }
 
 fn put_entry(out: &mut Vec<u8>, entry: &Entry) {

@@ -1,37 +1,57 @@
 //! Damaged copies of certificates.
 
+mod h2;
+
 use super::bytes::bytes_of;
 use super::entries::{spoil, Way};
 use crate::numbers::Numbers;
-use second::certificate::{Arrival, Certificate};
+use second::certificate::{Arrival, Certificate, Kind};
 
 /// The bytes of a copy with one or more changes. It may still be accepted.
 pub fn damaged(certificate: &Certificate, numbers: &mut Numbers) -> Vec<u8> {
+    let mut copy = certificate.clone();
     if numbers.chance(30) {
-        let mut bytes = bytes_of(certificate);
+        let mut bytes = bytes_of(&copy);
+        if copy.kind == Kind::H2 && numbers.chance(30) {
+            h2::change_record(&mut bytes, &copy, numbers);
+            return bytes;
+        }
         for _ in 0..numbers.pick(&[1, 1, 1, 2, 5]) {
             change_bytes(&mut bytes, numbers);
         }
         return bytes;
     }
-    let mut copy = certificate.clone();
+    let of_kind = match copy.kind {
+        Kind::Hd => 3,
+        Kind::H2 => 25,
+    };
     for _ in 0..numbers.pick(&[1, 1, 1, 2]) {
-        match numbers.below(18) {
-            0..=4 => change_entry(&mut copy, numbers),
-            5..=7 => change_arrivals(&mut copy, numbers),
-            8 => change_grid(&mut copy, numbers),
-            9 | 10 => change_link(&mut copy, numbers),
-            11 | 12 if copy.turns.is_empty() => change_signal(&mut copy, numbers),
-            11..=13 if !copy.turns.is_empty() => change_turn(&mut copy, numbers),
-            13 => change_limit(&mut copy, numbers),
-            14 => change_rank(&mut copy, numbers),
-            15 => change_signal(&mut copy, numbers),
-            _ => {
-                spoil(&mut copy, numbers.pick(&Way::ALL), numbers);
-            }
+        if numbers.chance(of_kind) {
+            h2::change(&mut copy, numbers);
+        } else {
+            change(&mut copy, numbers);
         }
     }
     bytes_of(&copy)
+}
+
+/// One change that there is in certificates of each kind.
+fn change(copy: &mut Certificate, numbers: &mut Numbers) {
+    match numbers.below(18) {
+        0..=4 => change_entry(copy, numbers),
+        5..=7 => change_arrivals(copy, numbers),
+        8 => change_grid(copy, numbers),
+        9 | 10 => change_link(copy, numbers),
+        11 | 12 if copy.turns.is_empty() => change_signal(copy, numbers),
+        11..=13 if !copy.turns.is_empty() => change_turn(copy, numbers),
+        13 => change_limit(copy, numbers),
+        14 => change_rank(copy, numbers),
+        15 => change_signal(copy, numbers),
+        _ => {
+            let way = numbers.pick(&Way::all(copy.kind));
+            spoil(copy, way, numbers);
+        }
+    }
 }
 
 /// Any other value for a number, often a near one.

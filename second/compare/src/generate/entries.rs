@@ -1,76 +1,18 @@
-//! Entries that name what is missing, and entries out of order.
+//! Entries that name what is missing, entries out of order, and those whose next mode remembers another signal.
+
+mod memory;
+mod ways;
+
+pub use ways::{Beside, Name, Order, Way};
 
 use super::bytes::bytes_of;
 use crate::numbers::Numbers;
-use second::certificate::Certificate;
+use second::certificate::{Certificate, Kind};
 use second::Report;
 
 /// Bytes of an EN record, and of ZZ.
 const ENTRY: usize = 9;
 const END: usize = 2;
-
-/// A name in an entry.
-#[derive(Clone, Copy, Debug, PartialEq, Eq)]
-pub enum Name {
-    Cell,
-    Mode,
-    Signal,
-    Next,
-}
-
-/// How the pair of an entry comes not to be above the one before.
-#[derive(Clone, Copy, Debug, PartialEq, Eq)]
-pub enum Order {
-    /// The two entries are swapped.
-    Swapped,
-    /// The pairs are equal.
-    Repeated,
-    /// The cell is the same and the mode lower.
-    LowerMode,
-    /// The cell is lower and the mode higher; equal pairs where there is no such cell or mode.
-    LowerCell,
-}
-
-/// How entries are spoilt.
-#[derive(Clone, Copy, Debug, PartialEq, Eq)]
-pub enum Way {
-    /// A name has its least missing value.
-    Missing(Name),
-    OutOfOrder(Order),
-    /// Out of order, with a missing name in the same entry.
-    Both(Order),
-    /// Out of order, with a missing name in a later entry.
-    Then(Order),
-}
-
-impl Way {
-    pub const ALL: [Way; 16] = [
-        Way::Missing(Name::Cell),
-        Way::Missing(Name::Mode),
-        Way::Missing(Name::Signal),
-        Way::Missing(Name::Next),
-        Way::OutOfOrder(Order::Swapped),
-        Way::OutOfOrder(Order::Repeated),
-        Way::OutOfOrder(Order::LowerMode),
-        Way::OutOfOrder(Order::LowerCell),
-        Way::Both(Order::Swapped),
-        Way::Both(Order::Repeated),
-        Way::Both(Order::LowerMode),
-        Way::Both(Order::LowerCell),
-        Way::Then(Order::Swapped),
-        Way::Then(Order::Repeated),
-        Way::Then(Order::LowerMode),
-        Way::Then(Order::LowerCell),
-    ];
-
-    /// The refusal that is due.
-    fn number(self) -> u32 {
-        match self {
-            Way::Missing(_) | Way::Both(_) => 9,
-            Way::OutOfOrder(_) | Way::Then(_) => 22,
-        }
-    }
-}
 
 /// The bytes of a spoilt copy, and the refusal that is due if the certificate itself can be read.
 pub fn spoilt(certificate: &Certificate, way: Way, numbers: &mut Numbers) -> (Vec<u8>, Report) {
@@ -99,16 +41,23 @@ pub fn spoil(copy: &mut Certificate, way: Way, numbers: &mut Numbers) -> usize {
             at
         }
         Way::Then(order) => {
-            let at = disorder(copy, order, 1, numbers);
-            if at + 1 == copy.entries.len() {
-                copy.entries.push(copy.entries[at].clone());
-            }
-            let later = numbers.between(at as u64 + 1, copy.entries.len() as u64 - 1);
+            let (at, later) = disorder_before(copy, order, numbers);
             let names = [Name::Cell, Name::Mode, Name::Signal, Name::Next];
-            misname(copy, later as usize, numbers.pick(&names));
+            misname(copy, later, numbers.pick(&names));
             at
         }
+        Way::Forgotten(beside) => memory::spoil(copy, beside, numbers),
     }
+}
+
+/// Puts an entry out of order; tells which, and one behind it.
+fn disorder_before(copy: &mut Certificate, order: Order, numbers: &mut Numbers) -> (usize, usize) {
+    let at = disorder(copy, order, 1, numbers);
+    if at + 1 == copy.entries.len() {
+        copy.entries.push(copy.entries[at].clone());
+    }
+    let later = numbers.between(at as u64 + 1, copy.entries.len() as u64 - 1);
+    (at, later as usize)
 }
 
 /// Gives a name of an entry its least missing value.
@@ -149,12 +98,20 @@ fn repeat(copy: &mut Certificate, at: usize) {
     copy.entries[at].mode = copy.entries[at - 1].mode;
 }
 
+/// Makes the modes as many as this at least; those of H2 certificates remember any signal.
+fn need_modes(copy: &mut Certificate, modes: u8) {
+    copy.modes = copy.modes.max(modes);
+    if copy.kind == Kind::H2 && copy.memory.len() < copy.modes.into() {
+        copy.memory.resize(copy.modes.into(), 0);
+    }
+}
+
 /// The entry before it passes to mode 1 if it has mode 0.
 fn lower_mode(copy: &mut Certificate, at: usize, numbers: &mut Numbers) {
     let before = &mut copy.entries[at - 1];
     if before.mode == 0 {
         before.mode = 1;
-        copy.modes = copy.modes.max(2);
+        need_modes(copy, 2);
     }
     repeat(copy, at);
     let most = copy.entries[at].mode - 1;
@@ -172,7 +129,7 @@ fn lower_cell(copy: &mut Certificate, at: usize, numbers: &mut Numbers) {
     if usize::from(cell) >= cells(copy) {
         return repeat(copy, at);
     }
-    copy.modes = modes;
+    need_modes(copy, modes);
     copy.entries[at - 1].cell = cell;
     copy.entries[at - 1].mode = mode;
     copy.entries[at].cell = numbers.wide(0, cell - 1);

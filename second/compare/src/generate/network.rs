@@ -2,9 +2,9 @@
 
 use super::Size;
 use crate::numbers::Numbers;
-use second::certificate::{Certificate, Link, Turn};
+use second::certificate::{Certificate, Kind, Link, Turn};
 
-/// A certificate with links, turns and signals; grid, arrivals and entries are still to come.
+/// An HD certificate with links, turns and signals; grid, arrivals and entries are still to come.
 pub fn network(numbers: &mut Numbers, size: Size) -> Certificate {
     let count = match size {
         Size::Small => 1 + numbers.weighed(&[8, 16, 20, 18, 14, 10, 7, 7]),
@@ -16,10 +16,12 @@ pub fn network(numbers: &mut Numbers, size: Size) -> Certificate {
     add_pull(numbers, &links, &mut turns);
     let signals = signals(numbers, &links);
     Certificate {
+        kind: Kind::Hd,
         links,
         turns,
         signals,
         modes: 1,
+        memory: Vec::new(),
         cuts: Vec::new(),
         arrivals: Vec::new(),
         entries: Vec::new(),
@@ -82,6 +84,7 @@ fn links(numbers: &mut Numbers, count: usize) -> Vec<Link> {
             flow,
             safe: cap,
             goal: cap,
+            start: None,
         });
     }
     links

@@ -1,37 +1,44 @@
 //! A policy for a network, a grid and arrival boxes.
 
 use super::bytes::bytes_of;
+use super::game::game;
 use super::solve::{Choice, Game, Steps};
-use crate::fast::image::Flows;
+use super::starts::add_memory;
 use crate::fast::network::Network;
-use crate::fast::ranges::{Range, Steps as Ranges};
 use crate::fast::reading::read;
 use crate::numbers::Numbers;
-use second::certificate::{Certificate, Entry};
+use second::certificate::{Certificate, Entry, Kind};
 
 /// Most pairs of cell and mode that are searched.
 const MOST_PAIRS: usize = 4_096;
 
 /// Adds some modes, and entries for all pairs that can be listed or for a few; tells the greatest rank.
 pub fn add_policy(certificate: &mut Certificate, numbers: &mut Numbers) -> Option<u16> {
-    let modes = 1 + numbers.weighed(&[40, 30, 15, 5, 3, 3, 2, 2]);
+    let modes = 1 + match certificate.kind {
+        Kind::Hd => numbers.weighed(&[40, 30, 15, 5, 3, 3, 2, 2]),
+        Kind::H2 => numbers.weighed(&[10, 30, 25, 14, 8, 6, 4, 3]),
+    };
+    if certificate.kind == Kind::H2 {
+        add_memory(certificate, modes, numbers);
+    }
     let whole = numbers.chance(60);
     find_policy(certificate, numbers, modes, whole)
 }
 
 /// Adds modes and entries; tells the greatest rank, or none if no pair of cell and mode can be listed.
-/// A network that breaks a condition, or has no policy, gets a single entry.
+/// A network that breaks a condition, or has no policy, gets a single entry. The modes of an H2 certificate have a
+/// memory each already; it keeps the first of them if there are pairs of cell and mode for fewer.
 pub fn find_policy(
     certificate: &mut Certificate,
     numbers: &mut Numbers,
     modes: usize,
     whole: bool,
 ) -> Option<u16> {
-    certificate.modes = 1;
+    certificate.modes = certificate.memory.len().max(1) as u8;
     certificate.entries = vec![Entry {
         cell: 0,
         mode: 0,
-        signal: 0,
+        signal: certificate.memory.first().copied().unwrap_or(0),
         next: 0,
         rank: 0,
     }];
@@ -46,6 +53,7 @@ pub fn find_policy(
         return None;
     }
     certificate.modes = modes as u8;
+    certificate.memory.truncate(modes);
     let choices = choose(&game, &steps, numbers);
     let kept = if whole {
         steps.iter().map(Option::is_some).collect()
@@ -57,78 +65,6 @@ pub fn find_policy(
     let ranks: Vec<Option<u16>> = steps.iter().map(rank).collect();
     certificate.entries = entries(&game, &choices, &kept, &ranks);
     certificate.entries.iter().map(|entry| entry.rank).max()
-}
-
-fn game(network: &Network, numbers: &mut Numbers, modes: usize) -> Game {
-    let within = |cell: usize, limit: fn(&Network, usize) -> u16| {
-        let intervals = network.intervals(cell);
-        (0..network.links).all(|l| network.edges[l][intervals[l] + 1] <= limit(network, l))
-    };
-    let cells = 0..network.cells;
-    let safe = |cell| within(cell, |network, link| network.link[link].safe);
-    let goal = |cell| within(cell, |network, link| network.link[link].goal);
-    Game {
-        cells: network.cells,
-        modes,
-        choices: (0..modes)
-            .map(|_| mode_choices(network, numbers, modes))
-            .collect(),
-        successors: successors(network),
-        safe: cells.clone().map(safe).collect(),
-        goal: cells.map(goal).collect(),
-    }
-}
-
-/// All signals in a single mode; a few choices in each of several ones.
-fn mode_choices(network: &Network, numbers: &mut Numbers, modes: usize) -> Vec<Choice> {
-    if modes == 1 {
-        return (0..network.signals as u8)
-            .map(|signal| (signal, 0))
-            .collect();
-    }
-    let count = numbers.between(1, 5);
-    let choice = |_| {
-        (
-            numbers.below(network.signals) as u8,
-            numbers.below(modes) as u8,
-        )
-    };
-    (0..count).map(choice).collect()
-}
-
-/// Successor cells by cell, then signal.
-fn successors(network: &Network) -> Vec<Vec<Vec<u16>>> {
-    let (flows, ranges) = (Flows::of(network), Ranges::of(network, &network.strides()));
-    let of_signal = |cell: usize, green: u8| {
-        let ends = flows.ends(green, &network.intervals(cell));
-        let ranges = &ranges.ranges(&ends)[..network.boxes];
-        let mut cells: Vec<u16> = ranges
-            .iter()
-            .flat_map(|range| range_cells(network, range))
-            .collect();
-        cells.sort();
-        cells.dedup();
-        cells
-    };
-    let greens = &network.green[..network.signals];
-    (0..network.cells)
-        .map(|cell| greens.iter().map(|&green| of_signal(cell, green)).collect())
-        .collect()
-}
-
-/// The cells of a range.
-fn range_cells(network: &Network, range: &Range) -> Vec<u16> {
-    let strides = network.strides();
-    let mut cells = vec![range.first as u16];
-    for (link, &stride) in strides.iter().enumerate().take(network.links) {
-        let more = (range.shape >> (4 * link) & 15) as usize;
-        let ahead = |cell: u16, step: usize| cell + (step * stride) as u16;
-        cells = cells
-            .iter()
-            .flat_map(|&cell| (0..=more).map(move |step| ahead(cell, step)))
-            .collect();
-    }
-    cells
 }
 
 /// A choice for each listed pair, at random among those that do.
@@ -166,7 +102,7 @@ fn reached_pairs(
         }
         kept[pair] = true;
         let (signal, next) = choices[pair];
-        for &cell in &game.successors[pair / game.modes][usize::from(signal)] {
+        for &cell in game.successors(pair, signal) {
             open.push(usize::from(cell) * game.modes + usize::from(next));
         }
     }

@@ -3,14 +3,18 @@
 /// A signal and the mode that follows.
 pub type Choice = (u8, u8);
 
+/// Successor cells by cell, then signal; all arrival boxes together.
+pub type ByCell = Vec<Vec<Vec<u16>>>;
+
 /// Pairs of cell and mode are numbered cell × modes + mode.
 pub struct Game {
     pub cells: usize,
     pub modes: usize,
     /// The choices of each mode.
     pub choices: Vec<Vec<Choice>>,
-    /// Successor cells by cell, then signal; all arrival boxes together.
-    pub successors: Vec<Vec<Vec<u16>>>,
+    /// Which of the successors are those of a mode: those after the signal that it remembers.
+    pub memory: Vec<usize>,
+    pub successors: Vec<ByCell>,
     pub safe: Vec<bool>,
     pub goal: Vec<bool>,
 }
@@ -73,10 +77,16 @@ impl Game {
         self.choices[pair % self.modes].iter().copied()
     }
 
+    /// The successor cells of a pair under a signal.
+    pub fn successors(&self, pair: usize, signal: u8) -> &[u16] {
+        let after = &self.successors[self.memory[pair % self.modes]];
+        &after[pair / self.modes][usize::from(signal)]
+    }
+
     /// Does a choice lead to listed pairs only, all of them fewer steps away than `limit`?
     pub fn leads(&self, pair: usize, choice: Choice, listed: &Steps, limit: Option<u16>) -> bool {
-        let successors = &self.successors[pair / self.modes][usize::from(choice.0)];
-        successors.iter().all(|&cell| {
+        let mut successors = self.successors(pair, choice.0).iter();
+        successors.all(|&cell| {
             let next = usize::from(cell) * self.modes + usize::from(choice.1);
             match (listed[next], limit) {
                 (None, _) => false,

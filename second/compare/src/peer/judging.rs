@@ -62,7 +62,8 @@ impl Judging<'_> {
             return Err(Report::at(13, number));
         }
         let green = self.network.green[usize::from(entry.signal) & 15];
-        let ends = self.flows.ends(green, &self.place.intervals);
+        let before = self.network.before[usize::from(entry.mode) & 7];
+        let ends = self.flows.ends(green, before, &self.place.intervals);
         let ranges = self.steps.ranges(&ends);
         let due = Due::of(&entry);
         let mut over = 0;

@@ -19,14 +19,25 @@ key-at-requires c κs = (search needs, search needs, search entry-whole)
 names-exist-requires : tie.Need-names-exist-requires
 names-exist-requires c κs = (search needs, search needs, search entry-whole, search needs, search needs, search needs)
 
+passes-on-requires : tie.Need-passes-on-requires
+passes-on-requires c κs = (search needs, search needs, search entry-whole, search needs)
+
 record-result-requires : tie.Need-record-result-requires
 record-result-requires c κs = search needs
 
 record-result-requires-2 : tie.Need-record-result-requires-2
 record-result-requires-2 c κs = search needs
 
+record-result-requires-3 : tie.Need-record-result-requires-3
+record-result-requires-3 c κs = search needs
+
 returns-2 : tie.Need-returns-2
-returns-2 c = search (entry-result, key-ascends)
+returns-2 c =
+    let on = c .before .before .before in
+    let opening = on .before .before .before .before .before in
+    let given = opening .before .before .before .pre in
+    entry-result _ _ (given .1) (opening .before .marked-as .ensures) (opening .check-opened .ensures) (on .before .names-exist .ensures)
+    (key-ascends _ _ (on .before .before .key-at .ensures) (given .4)) (on .passes-on .ensures) (c .before .before .record-result .ensures) (c .before .record-result2 .ensures) (c .record-result3 .ensures)
 
 pub check-entry-spec : {M : Type 1} → statement M
 check-entry-spec =
@@ -37,6 +48,8 @@ check-entry-spec =
     returns
     key-at-requires
     names-exist-requires
+    passes-on-requires
     record-result-requires
     record-result-requires-2
+    record-result-requires-3
     returns-2)

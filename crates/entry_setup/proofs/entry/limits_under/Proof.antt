@@ -4,18 +4,16 @@ use mathlib.Core.Path.{refl}
 use native.Mathlib.Omega.{arith}
 use borrow.Author.Count.{below-none}
 use borrow.Author.Needs.{needs}
-use Rattle.certificate.specs.Octets.{bitOf}
-use Rattle.certificate.specs.Loops.{pick}
-use Rattle.certificate.specs.Layout.{flowOf}
 use Rattle.octets.proofs.FilledTables.{Filled, filled-more}
+use Rattle.entry_setup.specs.Tables.{limitBy}
 use Rattle.entry_setup.proofs.entry.limits_under.Statement.{statement}
 use Rattle.entry_setup.proofs.entry.limits_under.Tie as tie
 
 abbrev Inv-loop : tie.InvT-loop
-Inv-loop s links byte limits₀ l₀ limits l = Filled 8 l (λ k. pick (bitOf byte k) (flowOf s k) 0) limits
+Inv-loop s links before byte limits₀ l₀ limits l = Filled 8 l (limitBy s before byte) limits
 
 abbrev μ-loop : tie.MeasureT-loop
-μ-loop s links byte limits₀ l₀ limits l = links - l
+μ-loop s links before byte limits₀ l₀ limits l = links - l
 
 loop-holds : tie.Need-loop-holds Inv-loop μ-loop
 loop-holds c = (refl, below-none _)

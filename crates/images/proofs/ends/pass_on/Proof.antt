@@ -7,7 +7,7 @@ use Rattle.certificate.specs.Layout.{linksOf, turnsOf, shareOf}
 use Rattle.supply.specs.Supply.{at, sentBy}
 use Rattle.screening.proofs.Bounds.{turns-most, links-most, to-link, turn-whole}
 use Rattle.octets.proofs.Fitting.{product-most}
-use Rattle.screening.proofs.Picking.{times-same}
+use Rattle.octets.proofs.Picking.{times-same}
 use Rattle.images.proofs.PassingOn.{Passing, passing-none, passing-done}
 use Rattle.screening.proofs.Summing.{summed-more}
 use Rattle.supply.proofs.TwoLeast.{sent-two}

@@ -4,8 +4,14 @@ use borrow.Author.Needs.{needs}
 use Rattle.road_records.proofs.links.check_link.Statement.{statement}
 use Rattle.road_records.proofs.links.check_link.Tie as tie
 
-link-at-requires : tie.Need-link-at-requires
-link-at-requires c κs = search needs
+has-memory-requires : tie.Need-has-memory-requires
+has-memory-requires c κs = search needs
+
+size-for-requires : tie.Need-size-for-requires
+size-for-requires c κs = search needs
+
+place-for-requires : tie.Need-place-for-requires
+place-for-requires c κs = search needs
 
 marked-as-requires : tie.Need-marked-as-requires
 marked-as-requires c κs = search needs
@@ -21,9 +27,9 @@ record-result-requires c κs = search needs
 
 returns : tie.Need-returns
 unfolding linkFault
-returns c = rw (← c .before .before .before .before .link-at .ensures .0, ← c .before .before .before .marked-as .ensures, ← c .before .before .check-opened .ensures, ← c .before .link-ok .ensures) (c .record-result .ensures)
+returns c = rw (← c .before .before .before .before .place-for .ensures .0, ← c .before .before .before .before .before .size-for .ensures .0, ← c .before .before .before .marked-as .ensures, ← c .before .before .check-opened .ensures, ← c .before .link-ok .ensures) (c .record-result .ensures)
 
 pub check-link-spec : {M : Type 1} → statement M
 check-link-spec =
     tie.close
-    (tie.spec link-at-requires marked-as-requires check-opened-requires link-ok-requires record-result-requires returns)
+    (tie.spec has-memory-requires size-for-requires place-for-requires marked-as-requires check-opened-requires link-ok-requires record-result-requires returns)

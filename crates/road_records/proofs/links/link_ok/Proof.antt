@@ -17,6 +17,9 @@ flow-of-requires c κs = search needs
 safe-of-requires : tie.Need-safe-of-requires
 safe-of-requires c κs = search needs
 
+start-flow-of-requires : tie.Need-start-flow-of-requires
+start-flow-of-requires c κs = search needs
+
 tail-of-requires : tie.Need-tail-of-requires
 tail-of-requires c κs = search needs
 
@@ -25,7 +28,7 @@ goal-of-requires c κs = search needs
 
 returns : tie.Need-returns
 unfolding linkOk _also_
-returns c = rw (c .goal-of .ensures .0, c .before .tail-of .ensures .0, c .before .before .safe-of .ensures .0, c .before .before .before .flow-of .ensures .0, c .before .before .before .before .cap-of .ensures .0, c .before .before .before .before .before .head-of .ensures .0)
+returns c = rw (c .goal-of .ensures .0, c .before .tail-of .ensures .0, c .before .before .start-flow-of .ensures .0, c .before .before .before .safe-of .ensures .0, c .before .before .before .before .flow-of .ensures .0, c .before .before .before .before .before .cap-of .ensures .0, c .before .before .before .before .before .before .head-of .ensures .0)
 
 pub link-ok-spec : {M : Type 1} → statement M
 link-ok-spec =
@@ -35,6 +38,7 @@ link-ok-spec =
     cap-of-requires
     flow-of-requires
     safe-of-requires
+    start-flow-of-requires
     tail-of-requires
     goal-of-requires
     returns)

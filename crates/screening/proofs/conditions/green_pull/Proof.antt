@@ -4,7 +4,7 @@ use native.Mathlib.Omega.{arith}
 use borrow.Author.Needs.{needs}
 use Rattle.octets.proofs.Fitting.{product-most}
 use Rattle.octets.proofs.Cases.{by-yes, by-no}
-use Rattle.screening.proofs.Picking.{pick-yes, pick-no, times-same}
+use Rattle.octets.proofs.Picking.{pick-yes, pick-no, times-same}
 use Rattle.screening.proofs.conditions.green_pull.Statement.{statement}
 use Rattle.screening.proofs.conditions.green_pull.Tie as tie
 
