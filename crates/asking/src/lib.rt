@@ -14,7 +14,7 @@ use cell_tables::queues as grid_queues;
 use certificate::Report;
 use entry_records::entries;
 use rank_tables::lookup;
-use road_records::signals;
+use signal_records::signals;
 
 // What a query finds: its report, the signal and its green byte, and the mode that the state passes to.
 pub struct Found {

@@ -9,7 +9,7 @@ use borrow.Author.Tests.{ltb-true, ltb-false, le-leb}
 use lib.Dec.{ltb, leb, eqb}
 use Rattle.certificate.specs.Layout.{signalsOf, modesOf, remembers, shownBefore, cellsOf, cellOf, modeOf, signalOf, nextModeOf}
 use Rattle.certificate.specs.Facts.{PairBelow, EntryFacts, PassesOn}
-use Rattle.certificate.specs.Due.{Kind, HD, LK, TN, SG, MD, GR, AR, EN, ZZ, orderOf, fieldNumber, Marked, Whole, Above, Line, BrokenLine, Missing, MissingName, WrongOrder, OtherSignal}
+use Rattle.certificate.specs.Due.{Kind, HD, LK, TN, SG, MD, GR, AR, EN, ZZ, fieldNumber, Marked, Whole, Above, Line, BrokenLine, Missing, MissingName, WrongOrder, OtherSignal}
 use Rattle.certificate.specs.Due.Missing.{cell, mode, signal, next-mode}
 use Rattle.certificate.specs.Laws.{ReadingNumber, up-to-nine, of-order, of-memory}
 use Rattle.certificate.proofs.KindOrder.{kindAt, numberOrder, placed, kind-six}

@@ -8,7 +8,7 @@ use native.Mathlib.Omega.{arith}
 use borrow.Author.Tests.{le-leb, eqb-true, eq-eqb}
 use lib.ListN.{length}
 use lib.Dec.{leb, eqb}
-use Rattle.certificate.specs.Checks.{fine, marked}
+use Rattle.certificate.specs.Checks.{fine}
 use Rattle.certificate.specs.Layout.{headerSize, linkSize, turnSize, signalSize, modeSize, gridSize, arrivalSize, entrySize, endSize, linksOf, remembers, linkAt, turnAt, signalAt, modeAt, shownBefore, gridAt, intervalsOf, cutOf, capOf, arrivalAt, entryAt, signalOf, nextModeOf, endAt}
 use Rattle.certificate.specs.Records.{headerOk, headerMarked, headerFault, linkOk, linkFault, turnAscends, shareTotal, turnOk, turnFault, signalOk, signalFault, modeOk, modeFault, cutBefore, cutOk, cutFault, countOk, gridFault, rangeOk, rangeFault, arrivalFault, namesExist, entryAscends, passesOn, entryFault, endFault}
 use Rattle.certificate.specs.Facts.{Mark, HeaderMark, HeaderFacts, LinkFacts, TurnFacts, SignalFacts, ModeFacts, GridFacts, BoxFacts, EntryFacts, PassesOn}

@@ -10,6 +10,7 @@ ghost use Rattle.entry_records.specs.Keys.{CountsAre, IsKey, KeyBefore};
 ghost use Rattle.octets.specs.Bounds.{entryBound, startBound};
 use certificate::Report;
 use certificate::limits;
+use signal_records::modes;
 
 // How many signals, modes and cells there are, whether modes remember the signal shown before, and where the records of modes begin.
 pub struct Counts {
@@ -106,7 +107,7 @@ fn passes_on(s: &[u8], o: usize, counts: Counts, e: usize) -> bool
         return true;
     }
     let next = octets::byte_within(s, o + 6);
-    mode_records::shown_before(s, counts.modes_start, next) == octets::byte_within(s, o + 5)
+    modes::shown_before(s, counts.modes_start, next) == octets::byte_within(s, o + 5)
 }
 
 // A quick yes for the record at o: it is there whole, its mark is right, and its tests pass. One above its key then, else 0.

@@ -21,7 +21,8 @@ use images::ends;
 use octets::numbers;
 use reading::Layout;
 use road_records::links;
-use road_records::signals;
+use signal_records::modes;
+use signal_records::signals;
 
 // The greatest number of 32 bits: nothing in the table of ranks is above it.
 const ANY_RANK: u32 = 4294967295;
@@ -126,7 +127,7 @@ fn byte_before(s: &[u8], layout: Layout, e: usize, byte: usize) -> usize
         return byte;
     }
     let mode = entries::mode_of(s, layout.entries_start, e);
-    let shown = mode_records::shown_before(s, layout.modes_start, mode);
+    let shown = modes::shown_before(s, layout.modes_start, mode);
     signals::green_byte_of(s, layout.signals_start, shown)
 }
 

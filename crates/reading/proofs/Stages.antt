@@ -14,7 +14,7 @@ use Rattle.certificate.specs.Loops.{pick}
 use Rattle.certificate.specs.Checks.{orElse}
 use Rattle.certificate.specs.Layout.{maxLinks, turnSize, signalSize, modeSize, arrivalSize, linksOf, turnsOf, signalsOf, modesOf, boxesOf, entriesOf, linkAt, turnsStart, signalsStart, modeRecordsOf, modesStart, gridStart, gridAt, arrivalsStart, entriesStart}
 use Rattle.certificate.specs.Records.{headerFault, endFault}
-use Rattle.certificate.specs.Reading.{linksFault, turnsFault, signalsFault, modesFault, gridsFault, readingOf}
+use Rattle.certificate.specs.Reading.{linksFault, turnsFault, signalsFault, readingOf}
 use Rattle.certificate.specs.Facts.{HeaderFacts}
 use Rattle.box_records.specs.GridRecords.{GridsLaid}
 use Rattle.reading.specs.ReadingResults.{StartsOf, gridPlace, networkFault, tailFault, backFault, LaidOut, noLayout, ReadAs}

@@ -14,7 +14,8 @@ use certificate::Report;
 use certificate::limits;
 use entry_records::entries;
 use road_records::links;
-use road_records::signals;
+use signal_records::modes;
+use signal_records::signals;
 use turn_records::turns;
 
 // What a readable certificate holds how many of, and where its records stand: in `grids` 0 for a link that there is not.
@@ -85,8 +86,8 @@ fn starts_of(s: &[u8]) -> Starts
     let turns = links::link_at(s, header_record::links_of(s));
     let signals = turns::turn_at(turns, header_record::turns_of(s));
     let modes = signals::signal_at(signals, header_record::signals_of(s));
-    let records = mode_records::records_of(s, header_record::modes_of(s));
-    let grids = mode_records::mode_at(modes, records);
+    let records = modes::records_of(s, header_record::modes_of(s));
+    let grids = modes::mode_at(modes, records);
     Starts {
         turns,
         signals,
@@ -114,8 +115,8 @@ fn check_network(s: &[u8], starts: Starts) -> Report
     if h.number != 0 {
         return h;
     }
-    let records = mode_records::records_of(s, header_record::modes_of(s));
-    mode_records::check_modes(s, starts.modes, signals, records)
+    let records = modes::records_of(s, header_record::modes_of(s));
+    modes::check_modes(s, starts.modes, signals, records)
 }
 
 // The layout of a certificate whose records up to the last GR are as they must be.

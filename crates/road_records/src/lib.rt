@@ -1,3 +1,2 @@
-// Links and signals: the fields of their records and their tests (refusals 4 and 6).
+// Links: the fields of their records and their tests (refusal 4).
 pub mod links;
-pub mod signals;

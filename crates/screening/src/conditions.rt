@@ -14,7 +14,7 @@ ghost use Rattle.octets.specs.Bounds.{startBound};
 use certificate::Report;
 use certificate::limits;
 use road_records::links;
-use road_records::signals;
+use signal_records::signals;
 use turn_records::turns;
 
 // Whether turn t leads from a green link.

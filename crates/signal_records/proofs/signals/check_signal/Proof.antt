@@ -1,8 +1,8 @@
--- `road_records::signals::check_signal` meets its contract. Assumes nothing.
+-- `signal_records::signals::check_signal` meets its contract. Assumes nothing.
 use Rattle.certificate.specs.Records.{signalOk, signalFault}
 use borrow.Author.Needs.{needs}
-use Rattle.road_records.proofs.signals.check_signal.Statement.{statement}
-use Rattle.road_records.proofs.signals.check_signal.Tie as tie
+use Rattle.signal_records.proofs.signals.check_signal.Statement.{statement}
+use Rattle.signal_records.proofs.signals.check_signal.Tie as tie
 
 signal-at-requires : tie.Need-signal-at-requires
 signal-at-requires c κs = search needs

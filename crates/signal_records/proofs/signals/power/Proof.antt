@@ -1,11 +1,11 @@
--- `road_records::signals::power` meets its contract. Assumes nothing.
+-- `signal_records::signals::power` meets its contract. Assumes nothing.
 use mathlib.Core.Path.{_∙_}
 use native.Mathlib.Nat.{one-mul}
 use native.Mathlib.Omega.{arith}
 use lib.Pow.{shl-exact}
 use borrow.Author.Needs.{needs}
-use Rattle.road_records.proofs.signals.power.Statement.{statement}
-use Rattle.road_records.proofs.signals.power.Tie as tie
+use Rattle.signal_records.proofs.signals.power.Statement.{statement}
+use Rattle.signal_records.proofs.signals.power.Tie as tie
 
 shl-result : tie.Need-shl-result
 shl-result c = search needs

@@ -1,8 +1,8 @@
--- `mode_records::check_mode` meets its contract. Assumes nothing.
+-- `signal_records::modes::check_mode` meets its contract. Assumes nothing.
 use Rattle.certificate.specs.Records.{modeOk, modeFault}
 use borrow.Author.Needs.{needs}
-use Rattle.mode_records.proofs.check_mode.Statement.{statement}
-use Rattle.mode_records.proofs.check_mode.Tie as tie
+use Rattle.signal_records.proofs.modes.check_mode.Statement.{statement}
+use Rattle.signal_records.proofs.modes.check_mode.Tie as tie
 
 mode-at-requires : tie.Need-mode-at-requires
 mode-at-requires c κs = search needs

@@ -1,8 +1,8 @@
--- `road_records::signals::is_green` meets its contract. Assumes nothing.
+-- `signal_records::signals::is_green` meets its contract. Assumes nothing.
 use borrow.Author.Needs.{needs}
 use Rattle.certificate.specs.Octets.{bitOf}
-use Rattle.road_records.proofs.signals.is_green.Statement.{statement}
-use Rattle.road_records.proofs.signals.is_green.Tie as tie
+use Rattle.signal_records.proofs.signals.is_green.Statement.{statement}
+use Rattle.signal_records.proofs.signals.is_green.Tie as tie
 
 shr-result : tie.Need-shr-result
 shr-result c = search needs

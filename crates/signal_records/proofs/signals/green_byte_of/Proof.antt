@@ -1,7 +1,7 @@
--- `road_records::signals::green_byte_of` meets its contract. Assumes nothing.
+-- `signal_records::signals::green_byte_of` meets its contract. Assumes nothing.
 use borrow.Author.Needs.{needs}
-use Rattle.road_records.proofs.signals.green_byte_of.Statement.{statement}
-use Rattle.road_records.proofs.signals.green_byte_of.Tie as tie
+use Rattle.signal_records.proofs.signals.green_byte_of.Statement.{statement}
+use Rattle.signal_records.proofs.signals.green_byte_of.Tie as tie
 
 signal-at-requires : tie.Need-signal-at-requires
 signal-at-requires c κs = search needs

@@ -1,4 +1,4 @@
--- `mode_records::shown_before` meets its contract. Assumes nothing.
+-- `signal_records::modes::shown_before` meets its contract. Assumes nothing.
 use Prim.Native.Nat.{ℕ, _+_, _*_}
 use mathlib.Core.List.{List}
 use mathlib.Core.Path.{_≡_}
@@ -7,8 +7,8 @@ use Rattle.certificate.specs.Octets.{byteAt}
 use Rattle.certificate.specs.Layout.{modeSize, modesStart, modeAt, shownBefore}
 use Rattle.octets.proofs.Cases.{by-yes, by-no}
 use Rattle.octets.proofs.Picking.{pick-yes, pick-no}
-use Rattle.mode_records.proofs.shown_before.Statement.{statement}
-use Rattle.mode_records.proofs.shown_before.Tie as tie
+use Rattle.signal_records.proofs.modes.shown_before.Statement.{statement}
+use Rattle.signal_records.proofs.modes.shown_before.Tie as tie
 
 -- the byte behind the mark of a mode's record
 shown-at : (s : List ℕ) (start m o r : ℕ) → start ≡ modesStart s → o ≡ start + modeSize * m → r ≡ byteAt s (o + 2) → r ≡ byteAt s (modeAt s m + 2)

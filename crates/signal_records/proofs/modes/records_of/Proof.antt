@@ -1,11 +1,11 @@
--- `mode_records::records_of` meets its contract. Assumes nothing.
+-- `signal_records::modes::records_of` meets its contract. Assumes nothing.
 use native.Mathlib.Omega.{arith}
 use borrow.Author.Needs.{needs}
 use Rattle.certificate.specs.Layout.{modeRecordsOf}
 use Rattle.octets.proofs.Cases.{by-yes, by-no}
 use Rattle.octets.proofs.Picking.{pick-yes, pick-no}
-use Rattle.mode_records.proofs.records_of.Statement.{statement}
-use Rattle.mode_records.proofs.records_of.Tie as tie
+use Rattle.signal_records.proofs.modes.records_of.Statement.{statement}
+use Rattle.signal_records.proofs.modes.records_of.Tie as tie
 
 has-memory-requires : tie.Need-has-memory-requires
 has-memory-requires c κs = search needs
