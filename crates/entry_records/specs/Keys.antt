@@ -2,7 +2,10 @@
 use Prim.Native.Nat.{ℕ, _+_, _*_, _-_, _≤_, _<_}
 use mathlib.Core.List.{List}
 use mathlib.Core.Path.{_≡_}
-use Rattle.certificate.specs.Layout.{cellOf, modeOf, signalsOf, modesOf, cellsOf, remembers, modesStart}
+use lib.ListN.{length}
+use Rattle.certificate.specs.Checks.{refusal, fine, need}
+use Rattle.certificate.specs.Layout.{entrySize, entryAt, cellOf, modeOf, signalsOf, modesOf, cellsOf, remembers, modesStart}
+use Rattle.certificate.specs.Records.{passesOn, entryFault}
 use Rattle.octets.specs.Bounds.{startBound}
 use Rattle.entry_records.specs.declared.entries.Counts.{Counts}
 
@@ -17,6 +20,11 @@ pub record KeyBefore (s : List ℕ) (e least : ℕ) : Type 0 where
   pub none : e ≡ 0 → least ≡ 0
   pub some : 0 < e → 1 ≤ least
   pub after : 0 < e → IsKey s (e - 1) (least - 1)
+
+-- entry e is there whole and passes its tests up to the order, so that 23 alone may refuse it
+pub record Ordered (s : List ℕ) (e : ℕ) : Type 0 where
+  pub whole : entryAt s e + entrySize ≤ length s
+  pub rest : entryFault s e ≡ need (passesOn s e) (refusal 23 (entryAt s e)) fine
 
 -- what the entries are tested against
 pub record CountsAre (s : List ℕ) (counts : Counts) : Type 0 where

@@ -1,12 +1,12 @@
 // EN: one record an entry of the policy, its fields and its tests. `start` is where the records of entries begin.
 ghost use mathlib.Core.Path.{_≡_};
-ghost use Prim.Native.Nat.{_+_, _*_, _<_, _≤_};
+ghost use Prim.Native.Nat.{ℕ, _+_, _*_, _<_, _≤_};
 ghost use lib.ListN.{length};
 ghost use Rattle.certificate.specs.Octets.{byteAt, u16At};
-ghost use Rattle.certificate.specs.Checks.{fine, firstFrom, firstBad};
+ghost use Rattle.certificate.specs.Checks.{firstBad};
 ghost use Rattle.certificate.specs.Layout.{maxCells, entriesStart, entryAt, entrySize, cellOf, modeOf, signalOf, nextModeOf, rankOf};
 ghost use Rattle.certificate.specs.Records.{namesExist, passesOn, entryFault};
-ghost use Rattle.entry_records.specs.Keys.{CountsAre, IsKey, KeyBefore};
+ghost use Rattle.entry_records.specs.Keys.{CountsAre, IsKey, KeyBefore, Ordered};
 ghost use Rattle.octets.specs.Bounds.{entryBound, startBound};
 use certificate::Report;
 use certificate::limits;
@@ -110,11 +110,11 @@ fn passes_on(s: &[u8], o: usize, counts: Counts, e: usize) -> bool
     modes::shown_before(s, counts.modes_start, next) == octets::byte_within(s, o + 5)
 }
 
-// A quick yes for the record at o: it is there whole, its mark is right, and its tests pass. One above its key then, else 0.
+// A quick yes for the record at o: it is there whole, its mark is right, and its tests up to 22 pass. One above its key then, else 0.
 // `least` is one above the key of the entry before it, and 0 for the first entry.
 fn quick(s: &[u8], o: usize, counts: Counts, e: usize, least: usize) -> usize
     requires { ⌜ (o ≤ entryBound) × (o ≡ entryAt (now s) e) × (counts .cells ≤ maxCells) × CountsAre (now s) counts × KeyBefore (now s) e least ⌝ }
-    ensures { λ r. ⌜ ((r ≡ 0 → ⊥) → (fine ≡ entryFault (now (s .entry)) e) × KeyBefore (now (s .entry)) (e + 1) r) ⌝ }
+    ensures { λ r. ⌜ ((r ≡ 0 → ⊥) → Ordered (now (s .entry)) e × KeyBefore (now (s .entry)) (e + 1) r) ⌝ }
 {
     if s.len() < o + limits::ENTRY_SIZE {
         return 0;
@@ -122,9 +122,7 @@ fn quick(s: &[u8], o: usize, counts: Counts, e: usize, least: usize) -> usize
     let key = key_at(s, o, e);
     // joined from the right for speed: from the left, the order would be tested before the mark
     if octets::marked_within(s, o, 69, 78) & (names_exist(s, o, counts, e, key) & (least <= key)) {
-        if passes_on(s, o, counts, e) {
-            return key + 1;
-        }
+        return key + 1;
     }
     0
 }
@@ -146,31 +144,38 @@ fn check_entry(s: &[u8], o: usize, counts: Counts, e: usize, least: usize) -> Re
     octets::record_result(ordered, on, 23, o)
 }
 
-// The records from entry `from` on.
-fn check_from(
-    s: &[u8],
-    start: usize,
-    counts: Counts,
-    entries: usize,
-    from: usize,
-    least: usize,
-) -> Report
-    requires { ⌜ (entries < 65536) × (start ≤ startBound) × (start ≡ entriesStart (now s)) × (counts .cells ≤ maxCells) × CountsAre (now s) counts × KeyBefore (now s) from least ⌝ }
-    ensures { λ r. ⌜ r ≡ firstFrom entries (entryFault (now (s .entry))) from ⌝ }
+// The records of all entries, each by its tests one after another.
+fn check_each(s: &[u8], start: usize, counts: Counts, entries: usize) -> Report
+    requires { ⌜ (entries < 65536) × (start ≤ startBound) × (start ≡ entriesStart (now s)) × (counts .cells ≤ maxCells) × CountsAre (now s) counts ⌝ }
+    ensures { λ r. ⌜ r ≡ firstBad entries (entryFault (now (s .entry))) ⌝ }
 {
-    let mut above = least;
-    for e in from..entries {
+    let mut least = 0;
+    for e in 0..entries {
         let o = entry_at(start, e);
-        let f = check_entry(s, o, counts, e, above);
+        let f = check_entry(s, o, counts, e, least);
         if f.number != 0 {
             return f;
         }
-        above = key_at(s, o, e) + 1;
+        least = key_at(s, o, e) + 1;
     }
     octets::accept()
 }
 
-// The records of all entries: quickly as long as the quick test says yes, and with care from there on.
+// 23 of all entries, which pass the tests before it. It has a loop of its own, so that HD has no part in it.
+fn check_memories(s: &[u8], start: usize, counts: Counts, entries: usize) -> Report
+    requires { ⌜ (entries < 65536) × (start ≤ startBound) × (start ≡ entriesStart (now s)) × CountsAre (now s) counts × ((e : ℕ) → e < entries → Ordered (now s) e) ⌝ }
+    ensures { λ r. ⌜ r ≡ firstBad entries (entryFault (now (s .entry))) ⌝ }
+{
+    for e in 0..entries {
+        let o = entry_at(start, e);
+        if !passes_on(s, o, counts, e) {
+            return octets::refuse(23, o);
+        }
+    }
+    octets::accept()
+}
+
+// The records of all entries: quickly as long as the quick test says yes, and then 23; where it says no, each again with care.
 pub fn check_entries(s: &[u8], start: usize, counts: Counts, entries: usize) -> Report
     requires { ⌜ (entries < 65536) × (start ≤ startBound) × (start ≡ entriesStart (now s)) × (counts .cells ≤ maxCells) × CountsAre (now s) counts ⌝ }
     ensures { λ r. ⌜ r ≡ firstBad entries (entryFault (now (s .entry))) ⌝ }
@@ -179,9 +184,12 @@ pub fn check_entries(s: &[u8], start: usize, counts: Counts, entries: usize) -> 
     for e in 0..entries {
         let next = quick(s, entry_at(start, e), counts, e, least);
         if next == 0 {
-            return check_from(s, start, counts, entries, e, least);
+            return check_each(s, start, counts, entries);
         }
         least = next;
+    }
+    if counts.memory {
+        return check_memories(s, start, counts, entries);
     }
     octets::accept()
 }

@@ -52,6 +52,14 @@ fn link_u16(s: &[u8], l: usize, k: usize) -> usize
 }
 
 // The same where the link is there whole: no test.
+fn link_byte_within(s: &[u8], l: usize, k: usize) -> usize
+    requires { ⌜ (l < 256) × (k < plainLinkSize) × (linkAt (now s) l + linkSize (now s) ≤ length (now s)) ⌝ }
+    ensures { λ r. ⌜ (r ≡ byteAt (now (s .entry)) (linkAt (now (s .entry)) l + k)) × (r < 256) ⌝ }
+{
+    let size = size_for(s, header_record::has_memory_within(s));
+    octets::byte_within(s, place_for(s, size, l) + k)
+}
+
 fn link_u16_within(s: &[u8], l: usize, k: usize) -> usize
     requires { ⌜ (l < 256) × (k + 1 < plainLinkSize) × (linkAt (now s) l + linkSize (now s) ≤ length (now s)) ⌝ }
     ensures { λ r. ⌜ (r ≡ u16At (now (s .entry)) (linkAt (now (s .entry)) l + k)) × (r < 65536) ⌝ }
@@ -113,7 +121,7 @@ pub fn start_flow_of(s: &[u8], l: usize) -> usize
     flow_of(s, l)
 }
 
-// Cap and flow of a link that is there whole: no test.
+// Cap, flow and start flow of a link that is there whole: no test.
 pub fn cap_within(s: &[u8], l: usize) -> usize
     requires { ⌜ (l < 256) × (linkAt (now s) l + linkSize (now s) ≤ length (now s)) ⌝ }
     ensures { λ r. ⌜ (r ≡ capOf (now (s .entry)) l) × (r < 65536) ⌝ }
@@ -128,23 +136,35 @@ pub fn flow_within(s: &[u8], l: usize) -> usize
     link_u16_within(s, l, 6)
 }
 
+fn start_flow_within(s: &[u8], l: usize) -> usize
+    requires { ⌜ (l < 256) × (linkAt (now s) l + linkSize (now s) ≤ length (now s)) ⌝ }
+    ensures { λ r. ⌜ (r ≡ startFlowOf (now (s .entry)) l) × (r < 65536) ⌝ }
+{
+    if header_record::has_memory_within(s) {
+        let o = place_for(s, limits::MAX_LINK_SIZE, l);
+        return octets::u16_within(s, o + 12);
+    }
+    flow_within(s, l)
+}
+
+// The fields of a link that is there whole are as they must be.
 fn link_ok(s: &[u8], l: usize) -> bool
-    requires { ⌜ l < 256 ⌝ }
+    requires { ⌜ (l < 256) × (linkAt (now s) l + linkSize (now s) ≤ length (now s)) ⌝ }
     ensures { λ r. ⌜ r ≡ linkOk (now (s .entry)) l ⌝ }
 {
-    let head = head_of(s, l);
-    let cap = cap_of(s, l);
-    let flow = flow_of(s, l);
-    let safe = safe_of(s, l);
-    let start = start_flow_of(s, l);
+    let head = link_byte_within(s, l, 3);
+    let cap = cap_within(s, l);
+    let flow = flow_within(s, l);
+    let safe = link_u16_within(s, l, 8);
+    let start = start_flow_within(s, l);
     (1 <= head)
-        & (head != tail_of(s, l))
+        & (head != link_byte_within(s, l, 2))
         & (1 <= cap)
         & (cap <= limits::MAX_CAP)
         & (1 <= flow)
         & (flow <= cap)
         & (safe <= cap)
-        & (goal_of(s, l) <= safe)
+        & (link_u16_within(s, l, 10) <= safe)
         & (1 <= start)
         & (start <= flow)
 }
@@ -156,6 +176,9 @@ fn check_link(s: &[u8], l: usize) -> Report
     let size = size_for(s, header_record::has_memory(s));
     let o = place_for(s, size, l);
     let opening = octets::check_opened(s, o, octets::marked_as(s, o, 76, 75), size);
+    if opening.number != 0 {
+        return opening;
+    }
     octets::record_result(opening, link_ok(s, l), 4, o)
 }
 

@@ -1,7 +1,7 @@
 -- `entry_records::entries::quick` meets its contract. Assumes nothing.
 use mathlib.Core.Path.{refl}
 use native.Mathlib.Omega.{arith}
-use Rattle.entry_records.proofs.EntryPairs.{entry-fine, key-next, key-ascends}
+use Rattle.entry_records.proofs.EntryPairs.{entry-ordered, key-next, key-ascends}
 use borrow.Author.Needs.{needs}
 use Rattle.entry_records.proofs.entries.quick.Statement.{statement}
 use Rattle.entry_records.proofs.entries.quick.Tie as tie
@@ -21,24 +21,17 @@ marked-within-requires c κs = search needs
 names-exist-requires : tie.Need-names-exist-requires
 names-exist-requires c κs = search needs
 
-passes-on-requires : tie.Need-passes-on-requires
-passes-on-requires c κs = search needs
-
 add-result : tie.Need-add-result
 add-result c = search needs
 
 returns-2 : tie.Need-returns-2
 returns-2 c = λ some.
-    let tested = c .before .before in
-    let start = tested .before .before .before .before .before .before in
-    let key = tested .before .before .before .key-at .ensures in
-    (entry-fine _ _ (start .pre .1) (omega arith) (tested .before .before .marked-within .ensures) (tested .before .names-exist .ensures) (key-ascends _ _ key (start .pre .4)) (c .before .passes-on .ensures) (tested .if2 .taken) (c .if3 .taken), key-next _ _ key)
+    let start = c .before .before .before .before .before .before in
+    let key = c .before .before .before .key-at .ensures in
+    (entry-ordered _ _ (start .pre .1) (omega arith) (c .before .before .marked-within .ensures) (c .before .names-exist .ensures) (key-ascends _ _ key (start .pre .4)) (c .if2 .taken), key-next _ _ key)
 
 returns-3 : tie.Need-returns-3
 returns-3 c = λ some. absurd (some refl)
-
-returns-4 : tie.Need-returns-4
-returns-4 c = λ some. absurd (some refl)
 
 pub quick-spec : {M : Type 1} → statement M
 quick-spec =
@@ -49,8 +42,6 @@ quick-spec =
     key-at-requires
     marked-within-requires
     names-exist-requires
-    passes-on-requires
     add-result
     returns-2
-    returns-3
-    returns-4)
+    returns-3)

@@ -1,6 +1,6 @@
 -- `road_records::links::check_link` meets its contract. Assumes nothing.
-use Rattle.certificate.specs.Records.{linkFault}
 use borrow.Author.Needs.{needs}
+use Rattle.road_records.proofs.LinkRecords.{link-unopened, link-whole, link-result}
 use Rattle.road_records.proofs.links.check_link.Statement.{statement}
 use Rattle.road_records.proofs.links.check_link.Tie as tie
 
@@ -19,17 +19,28 @@ marked-as-requires c κs = search needs
 check-opened-requires : tie.Need-check-opened-requires
 check-opened-requires c κs = search needs
 
+returns : tie.Need-returns
+returns c = search link-unopened
+
 link-ok-requires : tie.Need-link-ok-requires
-link-ok-requires c κs = search needs
+link-ok-requires c κs = (search needs, search link-whole)
 
 record-result-requires : tie.Need-record-result-requires
 record-result-requires c κs = search needs
 
-returns : tie.Need-returns
-unfolding linkFault
-returns c = rw (← c .before .before .before .before .place-for .ensures .0, ← c .before .before .before .before .before .size-for .ensures .0, ← c .before .before .before .marked-as .ensures, ← c .before .before .check-opened .ensures, ← c .before .link-ok .ensures) (c .record-result .ensures)
+returns-2 : tie.Need-returns-2
+returns-2 c = search link-result
 
 pub check-link-spec : {M : Type 1} → statement M
 check-link-spec =
     tie.close
-    (tie.spec has-memory-requires size-for-requires place-for-requires marked-as-requires check-opened-requires link-ok-requires record-result-requires returns)
+    (tie.spec
+    has-memory-requires
+    size-for-requires
+    place-for-requires
+    marked-as-requires
+    check-opened-requires
+    returns
+    link-ok-requires
+    record-result-requires
+    returns-2)

@@ -5,40 +5,40 @@ use borrow.Author.Needs.{needs}
 use Rattle.road_records.proofs.links.link_ok.Statement.{statement}
 use Rattle.road_records.proofs.links.link_ok.Tie as tie
 
-head-of-requires : tie.Need-head-of-requires
-head-of-requires c κs = search needs
+link-byte-within-requires : tie.Need-link-byte-within-requires
+link-byte-within-requires c κs = search needs
 
-cap-of-requires : tie.Need-cap-of-requires
-cap-of-requires c κs = search needs
+cap-within-requires : tie.Need-cap-within-requires
+cap-within-requires c κs = search needs
 
-flow-of-requires : tie.Need-flow-of-requires
-flow-of-requires c κs = search needs
+flow-within-requires : tie.Need-flow-within-requires
+flow-within-requires c κs = search needs
 
-safe-of-requires : tie.Need-safe-of-requires
-safe-of-requires c κs = search needs
+link-u16-within-requires : tie.Need-link-u16-within-requires
+link-u16-within-requires c κs = search needs
 
-start-flow-of-requires : tie.Need-start-flow-of-requires
-start-flow-of-requires c κs = search needs
+start-flow-within-requires : tie.Need-start-flow-within-requires
+start-flow-within-requires c κs = search needs
 
-tail-of-requires : tie.Need-tail-of-requires
-tail-of-requires c κs = search needs
+link-byte-within-requires-2 : tie.Need-link-byte-within-requires-2
+link-byte-within-requires-2 c κs = search needs
 
-goal-of-requires : tie.Need-goal-of-requires
-goal-of-requires c κs = search needs
+link-u16-within-requires-2 : tie.Need-link-u16-within-requires-2
+link-u16-within-requires-2 c κs = search needs
 
 returns : tie.Need-returns
 unfolding linkOk _also_
-returns c = rw (c .goal-of .ensures .0, c .before .tail-of .ensures .0, c .before .before .start-flow-of .ensures .0, c .before .before .before .safe-of .ensures .0, c .before .before .before .before .flow-of .ensures .0, c .before .before .before .before .before .cap-of .ensures .0, c .before .before .before .before .before .before .head-of .ensures .0)
+returns c = rw (c .link-u16-within2 .ensures .0, c .before .link-byte-within2 .ensures .0, c .before .before .start-flow-within .ensures .0, c .before .before .before .link-u16-within .ensures .0, c .before .before .before .before .flow-within .ensures .0, c .before .before .before .before .before .cap-within .ensures .0, c .before .before .before .before .before .before .link-byte-within .ensures .0)
 
 pub link-ok-spec : {M : Type 1} → statement M
 link-ok-spec =
     tie.close
     (tie.spec
-    head-of-requires
-    cap-of-requires
-    flow-of-requires
-    safe-of-requires
-    start-flow-of-requires
-    tail-of-requires
-    goal-of-requires
+    link-byte-within-requires
+    cap-within-requires
+    flow-within-requires
+    link-u16-within-requires
+    start-flow-within-requires
+    link-byte-within-requires-2
+    link-u16-within-requires-2
     returns)

@@ -1,4 +1,4 @@
--- `entry_records::entries::check_from` meets its contract. Assumes nothing.
+-- `entry_records::entries::check_each` meets its contract. Assumes nothing.
 use Prim.Native.Nat.{_-_}
 use mathlib.Core.Path.{_≡_, _∙_}
 use native.Mathlib.Omega.{arith}
@@ -7,18 +7,18 @@ use Rattle.certificate.specs.Checks.{firstFrom}
 use Rattle.certificate.specs.Records.{entryFault}
 use Rattle.entry_records.specs.Keys.{KeyBefore}
 use Rattle.octets.proofs.Cases.{go-on, stop, end}
-use Rattle.entry_records.proofs.EntryPairs.{key-next, entry-within}
-use Rattle.entry_records.proofs.entries.check_from.Statement.{statement}
-use Rattle.entry_records.proofs.entries.check_from.Tie as tie
+use Rattle.entry_records.proofs.EntryPairs.{key-none, key-next, entry-within}
+use Rattle.entry_records.proofs.entries.check_each.Statement.{statement}
+use Rattle.entry_records.proofs.entries.check_each.Tie as tie
 
 abbrev Inv-loop : tie.InvT-loop
-Inv-loop s start counts entries from least above₀ e₀ above e = (firstFrom entries (entryFault s) e ≡ firstFrom entries (entryFault s) from) × KeyBefore s e above
+Inv-loop s start counts entries least₀ e₀ least e = (firstFrom entries (entryFault s) e ≡ firstFrom entries (entryFault s) 0) × KeyBefore s e least
 
 abbrev μ-loop : tie.MeasureT-loop
-μ-loop s start counts entries from least above₀ e₀ above e = entries - e
+μ-loop s start counts entries least₀ e₀ least e = entries - e
 
 loop-holds : tie.Need-loop-holds Inv-loop μ-loop
-loop-holds c = search needs
+loop-holds c = (search needs, key-none _)
 
 entry-at-requires : tie.Need-entry-at-requires Inv-loop μ-loop
 entry-at-requires c κs = search needs
@@ -36,8 +36,8 @@ key-at-requires c κs =
     let given = turn .before .before .before .before .before .pre in
     omega (arith, given .0, given .1, given .2, turn .before .entry-at .ensures, turn .before .before .loop-test .taken)
 
-add-above : tie.Need-add-above Inv-loop μ-loop
-add-above c = omega (arith, c .key-at .ensures .most)
+add-least : tie.Need-add-least Inv-loop μ-loop
+add-least c = omega (arith, c .key-at .ensures .most)
 
 add-e : tie.Need-add-e Inv-loop μ-loop
 add-e c = search needs
@@ -56,8 +56,8 @@ accept-requires c κs = search needs
 returns-2 : tie.Need-returns-2 Inv-loop μ-loop
 returns-2 c = search end
 
-pub check-from-spec : {M : Type 1} → statement M
-check-from-spec =
+pub check-each-spec : {M : Type 1} → statement M
+check-each-spec =
     tie.close
     (tie.spec
     Inv-loop
@@ -67,7 +67,7 @@ check-from-spec =
     check-entry-requires
     returns
     key-at-requires
-    add-above
+    add-least
     add-e
     loop-less
     loop-again
