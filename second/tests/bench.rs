@@ -2,10 +2,10 @@
 
 mod common;
 
-use common::{bytes, l_with, L, L_TEXT};
+use common::{amounts, bytes, l_with, L, L_TEXT};
 use second::certificate::Greens;
 use second::conditions::{check_flows, check_pull_sums};
-use second::flow::{next_queues, Amounts, FINER};
+use second::flow::{next_queues, FINER};
 use second::grid::{cell_of, cells};
 use second::image::image;
 use second::reading::read;
@@ -22,12 +22,6 @@ fn report(number: u32, a: u64, b: u64, count: u64) -> Report {
 
 fn certificate(text: &str) -> Certificate {
     read(&bytes(text)).expect("a certificate that can be read")
-}
-
-fn amounts(values: &[i128]) -> Amounts {
-    let mut amounts = [0; 8];
-    amounts[..values.len()].copy_from_slice(values);
-    amounts
 }
 
 #[test]

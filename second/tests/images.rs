@@ -2,25 +2,13 @@
 
 mod common;
 
-use common::bytes;
+use common::{bytes, Numbers};
 use second::certificate::{is_green, Greens, Kind};
 use second::conditions::read_sound;
 use second::flow::{caps, next_queues, uncut_queues, Amounts, FINER};
 use second::grid::{cells, Interval};
 use second::image::image;
 use second::{judge, Certificate, Verdict};
-
-/// A plain row of numbers that look random, the same in every run.
-struct Numbers(u64);
-
-impl Numbers {
-    /// From `low` to `high`, both included.
-    fn between(&mut self, low: u64, high: u64) -> u64 {
-        self.0 = self.0.wrapping_mul(6364136223846793005);
-        self.0 = self.0.wrapping_add(1442695040888963407);
-        low + (self.0 >> 33) % (high - low + 1)
-    }
-}
 
 /// Two to five links by tail and head, and the text up to them.
 fn links(numbers: &mut Numbers, kind: Kind) -> (Vec<(u64, u64)>, String) {

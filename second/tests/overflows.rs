@@ -2,18 +2,12 @@
 
 mod common;
 
-use common::{bytes, BESIDE, L, L_TEXT};
+use common::{bytes, sound, BESIDE, L, L_TEXT};
 use second::certificate::Greens;
-use second::conditions::read_sound;
 use second::flow::{next_queues, uncut_queues, FINER};
 use second::grid::cells;
 use second::image::image;
-use second::{judge, listing, Certificate, Report, State, Verdict};
-
-/// A certificate that passes every test before 12.
-fn sound(text: &str) -> Certificate {
-    read_sound(&bytes(text)).unwrap_or_else(|refusal| panic!("{refusal}"))
-}
+use second::{judge, listing, Report, State, Verdict};
 
 /// Which links may exceed their cap under the first signal, by cell and arrival box.
 fn over(text: &str, cell: usize, arrivals: usize) -> Vec<bool> {

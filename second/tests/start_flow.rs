@@ -2,22 +2,9 @@
 
 mod common;
 
-use common::{as_hd, bytes, START_TEXT};
+use common::{amounts, as_hd, sound, START_TEXT};
 use second::certificate::Greens;
-use second::conditions::read_sound;
-use second::flow::{next_queues, Amounts, FINER};
-use second::Certificate;
-
-/// A certificate that passes every test before 12.
-fn sound(text: &str) -> Certificate {
-    read_sound(&bytes(text)).unwrap_or_else(|refusal| panic!("{refusal}"))
-}
-
-fn amounts(values: &[i128]) -> Amounts {
-    let mut amounts = [0; 8];
-    amounts[..values.len()].copy_from_slice(values);
-    amounts
-}
+use second::flow::{next_queues, FINER};
 
 /// The next queue of the H2 certificate's link (flow 6, start flow 2) without arrivals.
 fn next(now: u8, before: u8, queue: i128) -> i128 {

@@ -2,25 +2,13 @@
 
 mod common;
 
-use common::{as_hd, bytes, start, start_with, START_TEXT};
+use common::{as_hd, bytes, start, start_with, Numbers, START_TEXT};
 use second::certificate::{Entry, Greens};
 use second::conditions::read_sound;
 use second::flow::{next_queues, Amounts, FINER};
 use second::grid::{cells, Cell};
 use second::state::Answer;
 use second::{judge, Certificate, Report, State};
-
-/// A plain row of numbers that look random, the same in every run.
-struct Numbers(u64);
-
-impl Numbers {
-    /// From `low` to `high`, both included.
-    fn between(&mut self, low: u64, high: u64) -> u64 {
-        self.0 = self.0.wrapping_mul(6364136223846793005);
-        self.0 = self.0.wrapping_add(1442695040888963407);
-        low + (self.0 >> 33) % (high - low + 1)
-    }
-}
 
 /// A run of exact steps: queues over a scale, the mode and the signal last shown.
 struct Run<'a> {

@@ -2,24 +2,12 @@
 
 mod common;
 
-use common::{as_hd, bytes, start, start_with, START_TEXT};
+use common::{amounts, as_hd, bytes, sound, start, start_with, START_TEXT};
 use second::certificate::{Entry, Greens};
-use second::conditions::read_sound;
-use second::flow::{uncut_queues, Amounts, FINER};
+use second::flow::{uncut_queues, FINER};
 use second::grid::cells;
 use second::image::image;
-use second::{judge, listing, Certificate, Report, Verdict};
-
-/// A certificate that passes every test before 12.
-fn sound(text: &str) -> Certificate {
-    read_sound(&bytes(text)).unwrap_or_else(|refusal| panic!("{refusal}"))
-}
-
-fn amounts(values: &[i128]) -> Amounts {
-    let mut amounts = [0; 8];
-    amounts[..values.len()].copy_from_slice(values);
-    amounts
-}
+use second::{judge, listing, Report, Verdict};
 
 fn refused(number: u32, a: usize, b: usize, count: u64) -> Verdict {
     Verdict::refused(Report::at(number, a).and(b).counting(count))

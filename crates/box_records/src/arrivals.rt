@@ -2,6 +2,7 @@
 // `start` is where the records of boxes begin.
 ghost use mathlib.Core.Path.{_≡_};
 ghost use Prim.Native.Nat.{_+_, _*_, _<_, _≤_};
+ghost use lib.ListN.{length};
 ghost use Rattle.certificate.specs.Checks.{firstBad};
 ghost use Rattle.certificate.specs.Layout.{maxLinks, linksOf, arrivalsStart, arrivalSize, lowOf, highOf};
 ghost use Rattle.certificate.specs.Records.{rangeOk, rangeFault, arrivalFault};
@@ -17,30 +18,31 @@ pub fn arrival_at(start: usize, links: usize, b: usize) -> usize
     start + (2 + 4 * links) * b
 }
 
-fn low_of(s: &[u8], start: usize, links: usize, b: usize, l: usize) -> usize
-    requires { ⌜ (l < 256) × (b < 256) × (links ≤ maxLinks) × (links ≡ linksOf (now s)) × (start ≤ startBound) × (start ≡ arrivalsStart (now s)) ⌝ }
+// The range of link l in a box that is there whole: its ends, and its test.
+fn low_within(s: &[u8], start: usize, links: usize, b: usize, l: usize) -> usize
+    requires { ⌜ (l < links) × (b < 256) × (links ≤ maxLinks) × (links ≡ linksOf (now s)) × (start ≤ startBound) × (start ≡ arrivalsStart (now s)) × (start + arrivalSize links * b + arrivalSize links ≤ length (now s)) ⌝ }
     ensures { λ r. ⌜ (r ≡ lowOf (now (s .entry)) b l) × (r < 65536) ⌝ }
 {
-    octets::u16_at(s, arrival_at(start, links, b) + (2 + 4 * l))
+    octets::u16_within(s, arrival_at(start, links, b) + (2 + 4 * l))
 }
 
-fn high_of(s: &[u8], start: usize, links: usize, b: usize, l: usize) -> usize
-    requires { ⌜ (l < 256) × (b < 256) × (links ≤ maxLinks) × (links ≡ linksOf (now s)) × (start ≤ startBound) × (start ≡ arrivalsStart (now s)) ⌝ }
+fn high_within(s: &[u8], start: usize, links: usize, b: usize, l: usize) -> usize
+    requires { ⌜ (l < links) × (b < 256) × (links ≤ maxLinks) × (links ≡ linksOf (now s)) × (start ≤ startBound) × (start ≡ arrivalsStart (now s)) × (start + arrivalSize links * b + arrivalSize links ≤ length (now s)) ⌝ }
     ensures { λ r. ⌜ (r ≡ highOf (now (s .entry)) b l) × (r < 65536) ⌝ }
 {
-    octets::u16_at(s, arrival_at(start, links, b) + (4 + 4 * l))
+    octets::u16_within(s, arrival_at(start, links, b) + (4 + 4 * l))
 }
 
 fn range_ok(s: &[u8], start: usize, links: usize, b: usize, l: usize) -> bool
-    requires { ⌜ (l < 256) × (b < 256) × (links ≤ maxLinks) × (links ≡ linksOf (now s)) × (start ≤ startBound) × (start ≡ arrivalsStart (now s)) ⌝ }
+    requires { ⌜ (l < links) × (b < 256) × (links ≤ maxLinks) × (links ≡ linksOf (now s)) × (start ≤ startBound) × (start ≡ arrivalsStart (now s)) × (start + arrivalSize links * b + arrivalSize links ≤ length (now s)) ⌝ }
     ensures { λ r. ⌜ r ≡ rangeOk (now (s .entry)) b l ⌝ }
 {
-    let high = high_of(s, start, links, b, l);
-    (low_of(s, start, links, b, l) <= high) & (high <= limits::MAX_ARRIVAL)
+    let high = high_within(s, start, links, b, l);
+    (low_within(s, start, links, b, l) <= high) & (high <= limits::MAX_ARRIVAL)
 }
 
 fn check_range(s: &[u8], start: usize, links: usize, b: usize, l: usize) -> Report
-    requires { ⌜ (l < 256) × (b < 256) × (links ≤ maxLinks) × (links ≡ linksOf (now s)) × (start ≤ startBound) × (start ≡ arrivalsStart (now s)) ⌝ }
+    requires { ⌜ (l < links) × (b < 256) × (links ≤ maxLinks) × (links ≡ linksOf (now s)) × (start ≤ startBound) × (start ≡ arrivalsStart (now s)) × (start + arrivalSize links * b + arrivalSize links ≤ length (now s)) ⌝ }
     ensures { λ r. ⌜ r ≡ rangeFault (now (s .entry)) b l ⌝ }
 {
     if !range_ok(s, start, links, b, l) {
@@ -50,7 +52,7 @@ fn check_range(s: &[u8], start: usize, links: usize, b: usize, l: usize) -> Repo
 }
 
 fn check_ranges(s: &[u8], start: usize, links: usize, b: usize) -> Report
-    requires { ⌜ (b < 256) × (links ≤ maxLinks) × (links ≡ linksOf (now s)) × (start ≤ startBound) × (start ≡ arrivalsStart (now s)) ⌝ }
+    requires { ⌜ (b < 256) × (links ≤ maxLinks) × (links ≡ linksOf (now s)) × (start ≤ startBound) × (start ≡ arrivalsStart (now s)) × (start + arrivalSize links * b + arrivalSize links ≤ length (now s)) ⌝ }
     ensures { λ r. ⌜ r ≡ firstBad links (rangeFault (now (s .entry)) b) ⌝ }
 {
     for l in 0..links {

@@ -14,9 +14,9 @@ use Rattle.certificate.specs.Layout.{entrySize, entryAt, cellOf, modeOf, rememb
 use Rattle.certificate.specs.Records.{pairBelow, namesExist, entryAscends, passesOn, entryFault}
 use Rattle.entry_records.specs.Keys.{IsKey, KeyBefore, Ordered}
 use Rattle.certificate.proofs.Tests.{and-both, need-pass, need-fail, need-chain, or-next, fine-all}
-use Rattle.certificate.proofs.Says.{opened-says, opened-fine}
+use Rattle.certificate.proofs.Says.{opened-fine}
 use Rattle.certificate.proofs.Records.{entry-says}
-use Rattle.octets.proofs.Cases.{first}
+use Rattle.octets.proofs.Cases.{first, opened-whole}
 
 -- two pairs as numbers compare as the pairs do
 pair-key : (a b c d : ℕ) → b < 256 → d < 256 → leb (a * 256 + b + 1) (c * 256 + d) ≡ pairBelow a b c d
@@ -66,7 +66,7 @@ module _ (s : List ℕ) where
     entry-unopened bad = first f _ _ (opening ∙ rw (bears, here)) bad
 
     pub entry-whole : f .number ≡ 0 → o + entrySize ≤ length s
-    entry-whole z = opened-says s o mark entrySize refl .0 (rw (← opening) z) .0
+    entry-whole z = opened-whole s o mark entrySize (omega arith) opening z
 
     -- g is what the test of its names answers, after which its order is tested, and h what this answers
     pub entry-result : {named up on : Bool} {g h r : Report} → named ≡ namesExist s e → up ≡ entryAscends s e → on ≡ passesOn s e

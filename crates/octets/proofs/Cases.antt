@@ -1,13 +1,16 @@
 -- How the code's tests go by cases, in the form in which a proof has the facts; a loop of tests, turn by turn. Assumes nothing.
 use Prim.Native.Nat.{ℕ, _+_, _≤_, _<_}
 use mathlib.Core.Bool.{Bool, true, false, not}
+use mathlib.Core.List.{List}
 use mathlib.Core.Path.{_≡_, refl, sym, ap, _∙_}
 use mathlib.Core.Logic.{⊎-elim}
 use native.Mathlib.Omega.{arith}
 use borrow.Author.Tests.{lt-ltb, le-ltb, le-leb, lt-leb, eq-eqb, ne-eqb, eqb-false, not-true, not-false}
 use lib.Dec.{eqb, leb}
+use lib.ListN.{length}
 use Rattle.certificate.specs.declared.Report.{Report}
-use Rattle.certificate.specs.Checks.{refusal, fine, need, orElse, firstFrom}
+use Rattle.certificate.specs.Checks.{refusal, fine, need, orElse, firstFrom, opened}
+use Rattle.certificate.proofs.Says.{opened-says}
 use Rattle.certificate.proofs.Tests.{need-pass, need-fail, or-next, or-stop, passes, first-turn, first-end}
 
 -- a test's outcome that has a name, r
@@ -40,6 +43,10 @@ second f g h r e n p = p ∙ sym (or-next g h (rw (← e) n))
 -- a refusal that a call made is none that passes
 pub refused : {r : Report} {n o : ℕ} → r ≡ refusal n o → eqb n 0 ≡ false → r .number ≡ 0 → ⊥
 refused {r} {n} {o} e z q = eqb-false n 0 z (sym (ap (λ (x : Report). x .number) e) ∙ q)
+
+-- a record whose opening passes is there whole
+pub opened-whole : (s : List ℕ) (o : ℕ) (mark : Bool) (size : ℕ) {f : Report} → 2 ≤ size → f ≡ opened s o mark size → f .number ≡ 0 → o + size ≤ length s
+opened-whole s o mark size two e z = opened-says s o mark size (le-leb 2 size two) .0 (rw (← e) z) .0
 
 pub ruleset cases = (lt-ltb, le-ltb, le-leb, lt-leb, eq-eqb, ne-eqb, by-yes, by-no, not-yes, not-no, pass, fail, first, second)
 

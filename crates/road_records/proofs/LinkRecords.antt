@@ -4,16 +4,14 @@ use mathlib.Core.Bool.{Bool, true, false}
 use mathlib.Core.List.{List}
 use mathlib.Core.Path.{_≡_, refl, sym, _∙_}
 use native.Mathlib.Omega.{arith}
-use borrow.Author.Tests.{le-leb}
 use lib.ListN.{length}
 use Rattle.certificate.specs.declared.Report.{Report}
 use Rattle.certificate.specs.Octets.{u16At}
 use Rattle.certificate.specs.Checks.{refusal, fine, need, orElse, marked, opened}
 use Rattle.certificate.specs.Layout.{maxLinkSize, remembers, linkSize, linkAt, flowOf, startFlowOf}
 use Rattle.certificate.specs.Records.{linkOk, linkFault}
-use Rattle.certificate.proofs.Says.{opened-says}
 use Rattle.certificate.proofs.KindSizes.{link-least}
-use Rattle.octets.proofs.Cases.{first}
+use Rattle.octets.proofs.Cases.{first, opened-whole}
 
 -- in H2 the record of a link is the longest
 pub link-long : (s : List ℕ) {memory : Bool} → memory ≡ remembers s → memory ≡ true → maxLinkSize ≡ linkSize s
@@ -30,7 +28,7 @@ module _ (s : List ℕ) (l : ℕ) {o : ℕ} (here : o ≡ linkAt s l) where
     pub link-whole : f .number ≡ 0 → linkAt s l + linkSize s ≤ length s
     link-whole z =
         let least = link-least s in
-        let inside = opened-says s o mark size (le-leb 2 size (omega arith)) .0 (rw (← opening) z) .0 in
+        let inside = opened-whole s o mark size (omega arith) opening z in
         omega arith
 
     pub link-result : {ok : Bool} {r : Report} → ok ≡ linkOk s l → r ≡ orElse f (need ok (refusal 4 o) fine) → r ≡ linkFault s l

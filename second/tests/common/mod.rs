@@ -1,11 +1,14 @@
-//! Certificates that several tests use.
+//! Certificates that several tests use, and numbers for them.
 #![allow(dead_code)]
 
 pub mod folder;
 pub mod large;
 pub mod program;
 
+use second::conditions::read_sound;
+use second::flow::Amounts;
 use second::text::encode;
+use second::Certificate;
 
 /// Document 01's L, byte for byte.
 pub const L: [u8; 66] = [
@@ -90,6 +93,18 @@ pub fn bytes(text: &str) -> Vec<u8> {
     encode(text).unwrap_or_else(|fault| panic!("line {fault}"))
 }
 
+/// A certificate that passes every test before 12.
+pub fn sound(text: &str) -> Certificate {
+    read_sound(&bytes(text)).unwrap_or_else(|refusal| panic!("{refusal}"))
+}
+
+/// Amounts by link, 0 behind the given ones.
+pub fn amounts(values: &[i128]) -> Amounts {
+    let mut amounts = [0; 8];
+    amounts[..values.len()].copy_from_slice(values);
+    amounts
+}
+
 /// The crossing with its entries: every cell in both modes.
 pub fn crossing() -> Vec<u8> {
     let mut entries = String::new();
@@ -136,4 +151,16 @@ pub fn start_crossing() -> String {
 pub fn l_with(old: &str, new: &str) -> Vec<u8> {
     assert!(L_TEXT.contains(old), "L has no `{old}`");
     bytes(&L_TEXT.replace(old, new))
+}
+
+/// A plain row of numbers that look random, the same in every run.
+pub struct Numbers(pub u64);
+
+impl Numbers {
+    /// From `low` to `high`, both included.
+    pub fn between(&mut self, low: u64, high: u64) -> u64 {
+        self.0 = self.0.wrapping_mul(6364136223846793005);
+        self.0 = self.0.wrapping_add(1442695040888963407);
+        low + (self.0 >> 33) % (high - low + 1)
+    }
 }

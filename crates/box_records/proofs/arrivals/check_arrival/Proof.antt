@@ -1,9 +1,11 @@
 -- `box_records::arrivals::check_arrival` meets its contract. Assumes nothing.
+use Prim.Native.Nat.{_+_, _*_}
 use mathlib.Core.Path.{_≡_}
 use Rattle.certificate.specs.Checks.{marked, opened}
 use Rattle.certificate.specs.Layout.{linksOf, arrivalAt, arrivalSize}
 use Rattle.certificate.specs.Records.{arrivalFault}
-use Rattle.octets.proofs.Cases.{first, second}
+use Rattle.octets.proofs.Cases.{first, second, opened-whole}
+use native.Mathlib.Omega.{arith}
 use borrow.Author.Needs.{needs}
 use Rattle.box_records.proofs.arrivals.check_arrival.Statement.{statement}
 use Rattle.box_records.proofs.arrivals.check_arrival.Tie as tie
@@ -34,7 +36,10 @@ unfolding arrivalFault
 returns c = first _ _ _ (opening-said (c .before .before)) (c .if1 .taken)
 
 check-ranges-requires : tie.Need-check-ranges-requires
-check-ranges-requires c κs = search needs
+check-ranges-requires c κs =
+    let opening = c .before .before in
+    let whole = opened-whole _ _ _ (2 + 4 * opening .before .before .before .before .args .links) (omega arith) (opening .check-opened .ensures) (c .if1 .left) in
+    (search needs, search needs, search needs, search needs, search needs, omega (arith, whole, opening .before .before .arrival-at .ensures .0))
 
 returns-2 : tie.Need-returns-2
 unfolding arrivalFault
