@@ -8,7 +8,8 @@ mod loading;
 mod querying;
 mod writing;
 
-// The state by value: the stored certificate's bytes, how many there are, and the mode. In this order copies of it take the least time.
+// The state by value: the stored certificate's bytes, how many there are, and the mode. The mode stands before the length for speed: with the
+// length before it, copies of the state took longer.
 pub struct Controller {
     pub bytes: [u8; Controller::SIZE],
     pub mode: u8,

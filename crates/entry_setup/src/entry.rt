@@ -102,6 +102,7 @@ fn limit_under(s: &[u8], before: usize, byte: usize, l: usize) -> usize
     if signals::is_green(before, l) {
         return links::flow_within(s, l);
     }
+    // with its tests for speed: without them, HD had more instructions
     links::start_flow_of(s, l)
 }
 
