@@ -31,10 +31,10 @@ extern "C" {
 
 /* Bytes of a state: the array for a certificate, its length (high byte first), the mode. The array has room for the most
  * records of the greatest size: HD, LK, TN, SG, MD, GR, AR, EN, ZZ. */
-#define DERGVOST_ARRAY (9 + 8 * 14 + 32 * 7 + 16 * 3 + 8 * 3 + 8 * 31 + 8 * 34 + 4096 * 9 + 2)
+#define DERGVOST_ARRAY (9 + 8 * 14 + 32 * 7 + 16 * 3 + 8 * 20 + 8 * 31 + 8 * 34 + 4096 * 9 + 2)
 #define DERGVOST_LENGTH 8
 #define DERGVOST_MODE 1
-#define DERGVOST_STATE (DERGVOST_ARRAY + DERGVOST_LENGTH + DERGVOST_MODE) /* 37,812 */
+#define DERGVOST_STATE (DERGVOST_ARRAY + DERGVOST_LENGTH + DERGVOST_MODE) /* 37,948 */
 
 /* A buffer of this many bytes has room for every listing, and one of DERGVOST_ARRAY for every certificate. */
 #define DERGVOST_LISTING 94293
@@ -64,18 +64,19 @@ enum dergvost_place {
 enum dergvost_number {
     DERGVOST_DONE = 0, /* success; judge and load: count = successors looked up; list and write: A = bytes written */
 
-    /* screen, judge and load: the certificate is refused by reading (1 to 9, 22, 23) or the two conditions */
+    /* screen, judge and load: the certificate is refused by reading (1 to 9, 22 to 24) or the two conditions */
     DERGVOST_CUT_SHORT = 1,      /* fewer bytes than the due record or its mark needs; A = offset of its start */
     DERGVOST_WRONG_MARK = 2,     /* wrong mark, or a byte after ZZ; A = that offset */
-    DERGVOST_BAD_HEADER = 3,     /* a field of HD or H2 is out of range; A = offset of the record, as for 4 to 9, 22, 23 */
-    DERGVOST_BAD_LINK = 4,       /* a field of an LK, in H2 its start flow too */
+    DERGVOST_BAD_HEADER = 3,     /* a field of HD, H2 or H3 is out of range; A = offset of the record, as for 4 to 9, 22 to 24 */
+    DERGVOST_BAD_LINK = 4,       /* a field of an LK, in H2 and H3 its start flow too */
     DERGVOST_BAD_TURN = 5,       /* a field of a TN, its order, or its link's shares above 100 */
-    DERGVOST_BAD_SIGNAL = 6,     /* the green byte of an SG, or the signal of an MD */
+    DERGVOST_BAD_SIGNAL = 6,     /* the green byte of an SG, or a field of an MD */
     DERGVOST_BAD_GRID = 7,       /* the count or a cut of a GR */
     DERGVOST_BAD_ARRIVALS = 8,   /* a low or a high of an AR */
     DERGVOST_BAD_ENTRY = 9,      /* an EN names a missing cell, mode, signal or next mode */
     DERGVOST_BAD_ORDER = 22,     /* its names exist, and its pair of cell and mode is not above that of the EN before it */
-    DERGVOST_BAD_MEMORY = 23,    /* H2: its pair is above, and its next mode's MD names a signal other than its own */
+    DERGVOST_BAD_MEMORY = 23,    /* H2, H3: its pair is above, and its next mode's MD names a signal other than its own */
+    DERGVOST_BAD_GOAL_NUMBER = 24, /* H3: it names its own, and that mode has another goal number than the rank asks for */
     DERGVOST_PULL_TOO_HIGH = 10, /* pull sum of a link too high; A = signal, B = link */
     DERGVOST_FLOW_TOO_HIGH = 11, /* flow condition of a turn fails; A = turn */
 
@@ -96,10 +97,10 @@ enum dergvost_number {
     DERGVOST_TOO_SHORT = 255 /* the report has too few places */
 };
 
-/* The tests before 12. Refused with 1 to 9, 22 and 23, then with 10 and 11. */
+/* The tests before 12. Refused with 1 to 9, 22 to 24, then with 10 and 11. */
 uint32_t dergvost_screen(const uint8_t *certificate, size_t certificate_len, uint32_t *report, size_t report_len);
 
-/* The verdict. Its report has 5 places. Refused with 1 to 9, 22 and 23, then with 10 to 15. */
+/* The verdict. Its report has 5 places. Refused with 1 to 9, 22 to 24, then with 10 to 15. */
 uint32_t dergvost_judge(const uint8_t *certificate, size_t certificate_len, uint32_t *report, size_t report_len);
 
 /* Puts the listing into the front of a buffer, of a refused certificate too; A is its length. Refused with 17. */

@@ -33,10 +33,10 @@ extern "C" {
 
 /* Bytes of a state: the array for a certificate, its length (high byte first), the mode. The array has room for the most
  * records of the greatest size: HD, LK, TN, SG, MD, GR, AR, EN, ZZ. */
-#define ROADSIDE_ARRAY (9 + 8 * 14 + 32 * 7 + 16 * 3 + 8 * 3 + 8 * 31 + 8 * 34 + 4096 * 9 + 2)
+#define ROADSIDE_ARRAY (9 + 8 * 14 + 32 * 7 + 16 * 3 + 8 * 20 + 8 * 31 + 8 * 34 + 4096 * 9 + 2)
 #define ROADSIDE_LENGTH 8
 #define ROADSIDE_MODE 1
-#define ROADSIDE_STATE (ROADSIDE_ARRAY + ROADSIDE_LENGTH + ROADSIDE_MODE) /* 37,812 */
+#define ROADSIDE_STATE (ROADSIDE_ARRAY + ROADSIDE_LENGTH + ROADSIDE_MODE) /* 37,948 */
 
 /* A poll has 18 bytes a link, links ascending: nine of the first detector, then nine of the second. */
 #define ROADSIDE_DETECTOR 9
@@ -59,15 +59,16 @@ enum roadside_number {
     /* the certificate of a load is refused */
     ROADSIDE_CUT_SHORT = 1,      /* fewer bytes than the due record or its mark needs; A = offset of its start */
     ROADSIDE_WRONG_MARK = 2,     /* wrong mark, or a byte after ZZ; A = that offset */
-    ROADSIDE_BAD_HEADER = 3,     /* a field of HD or H2 is out of range; A = offset of the record, as for 4 to 9, 22, 23 */
-    ROADSIDE_BAD_LINK = 4,       /* a field of an LK, in H2 its start flow too */
+    ROADSIDE_BAD_HEADER = 3,     /* a field of HD, H2 or H3 is out of range; A = offset of the record, as for 4 to 9, 22 to 24 */
+    ROADSIDE_BAD_LINK = 4,       /* a field of an LK, in H2 and H3 its start flow too */
     ROADSIDE_BAD_TURN = 5,       /* a field of a TN, its order, or its link's shares above 100 */
-    ROADSIDE_BAD_SIGNAL = 6,     /* the green byte of an SG, or the signal of an MD */
+    ROADSIDE_BAD_SIGNAL = 6,     /* the green byte of an SG, or a field of an MD */
     ROADSIDE_BAD_GRID = 7,       /* the count or a cut of a GR */
     ROADSIDE_BAD_ARRIVALS = 8,   /* a low or a high of an AR */
     ROADSIDE_BAD_ENTRY = 9,      /* an EN names a missing cell, mode, signal or next mode */
     ROADSIDE_BAD_ORDER = 22,     /* its names exist, and its pair of cell and mode is not above that of the EN before it */
-    ROADSIDE_BAD_MEMORY = 23,    /* H2: its pair is above, and its next mode's MD names a signal other than its own */
+    ROADSIDE_BAD_MEMORY = 23,    /* H2, H3: its pair is above, and its next mode's MD names a signal other than its own */
+    ROADSIDE_BAD_GOAL_NUMBER = 24, /* H3: it names its own, and that mode has another goal number than the rank asks for */
     ROADSIDE_PULL_TOO_HIGH = 10, /* pull sum of a link too high; A = signal, B = link */
     ROADSIDE_FLOW_TOO_HIGH = 11, /* flow condition of a turn fails; A = turn */
     ROADSIDE_NOT_SAFE = 12,      /* an entry's cell is not safe; A = entry, count before it */
@@ -107,7 +108,7 @@ enum roadside_number {
 uint64_t roadside_fresh(uint8_t *state, size_t state_len);
 
 /* Judges a certificate; an accepted one is copied into the state, in place of what was there, and the mode is 0. It may be
- * called in any state. Refused with 18 for the state's length, then with 1 to 9, 22 and 23, then with 10 to 15. */
+ * called in any state. Refused with 18 for the state's length, then with 1 to 9, 22 to 24, then with 10 to 15. */
 uint64_t roadside_load(uint8_t *state, size_t state_len, const uint8_t *certificate, size_t certificate_len);
 
 /* Looks up the signal for queues that are whole numbers over one scale (roadside_put_quad), and passes to the next mode.

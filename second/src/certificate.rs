@@ -14,16 +14,19 @@ pub enum Kind {
     Hd,
     /// A green link that was red before sends up to its start flow.
     H2,
+    /// As H2, and the modes have goals that are to be met in turn.
+    H3,
 }
 
 impl Kind {
-    pub const ALL: [Kind; 2] = [Kind::Hd, Kind::H2];
+    pub const ALL: [Kind; 3] = [Kind::Hd, Kind::H2, Kind::H3];
 
     /// The mark of the first record.
     pub fn mark(self) -> &'static [u8; 2] {
         match self {
             Kind::Hd => b"HD",
             Kind::H2 => b"H2",
+            Kind::H3 => b"H3",
         }
     }
 
@@ -32,7 +35,23 @@ impl Kind {
         match self {
             Kind::Hd => "HD",
             Kind::H2 => "H2",
+            Kind::H3 => "H3",
         }
+    }
+
+    /// The kind whose mark this is.
+    pub fn named(name: &str) -> Option<Kind> {
+        Kind::ALL.into_iter().find(|kind| kind.name() == name)
+    }
+
+    /// Do links have start flows, and modes the signal shown before?
+    pub fn has_starts(self) -> bool {
+        self != Kind::Hd
+    }
+
+    /// Do modes have goals of their own?
+    pub fn has_goals(self) -> bool {
+        self == Kind::H3
     }
 }
 
@@ -47,6 +66,7 @@ pub struct Link {
     /// The most that leaves in a step.
     pub flow: u16,
     pub safe: u16,
+    /// Not used in an H3 certificate, whose modes have goals.
     pub goal: u16,
     /// Start flow: the most that leaves in a green step after a red one. None in an HD certificate.
     pub start: Option<u16>,
@@ -69,6 +89,13 @@ pub struct Turn {
     pub to: usize,
     pub share: u8,
     pub pull: u16,
+}
+
+/// The goal of a mode: its number in turn, and one amount a link.
+#[derive(Clone, Debug, PartialEq, Eq)]
+pub struct Goal {
+    pub number: u8,
+    pub amounts: Vec<u16>,
 }
 
 /// Arrivals of one link in one arrival box.
@@ -98,6 +125,8 @@ pub struct Certificate {
     pub modes: u8,
     /// For each mode the signal shown before; empty in an HD certificate.
     pub memory: Vec<u8>,
+    /// The goal of each mode; empty but in an H3 certificate.
+    pub goals: Vec<Goal>,
     /// The cuts of each link.
     pub cuts: Vec<Vec<u16>>,
     /// Arrival boxes, each with one pair a link.
@@ -110,13 +139,37 @@ impl Certificate {
     /// entry's own stands for it.
     pub fn greens(&self, entry: &Entry) -> Greens {
         let green = |signal: u8| self.signals[usize::from(signal)];
-        match self.kind {
-            Kind::Hd => Greens::same(green(entry.signal)),
-            Kind::H2 => Greens {
+        match self.memory.get(usize::from(entry.mode)) {
+            None => Greens::same(green(entry.signal)),
+            Some(&before) => Greens {
                 now: green(entry.signal),
-                before: green(self.memory[usize::from(entry.mode)]),
+                before: green(before),
             },
         }
+    }
+
+    /// The amount that the queue of a link is not to exceed where a mode's goal is met.
+    pub fn goal(&self, mode: usize, link: usize) -> u16 {
+        match self.goals.get(mode) {
+            None => self.links[link].goal,
+            Some(goal) => goal.amounts[link],
+        }
+    }
+
+    /// Do an entry's mode and next mode have the goal numbers that its rank asks for: the same above 0, and with 0 the
+    /// next one, 0 after the greatest? Without goals of their own, modes always do.
+    pub fn keeps_turn(&self, entry: &Entry) -> bool {
+        let Some(greatest) = self.goals.iter().map(|goal| goal.number).max() else {
+            return true;
+        };
+        let number = |mode: u8| self.goals[usize::from(mode)].number;
+        let held = number(entry.mode);
+        let due = match entry.rank {
+            0 if held == greatest => 0,
+            0 => held + 1,
+            _ => held,
+        };
+        number(entry.next) == due
     }
 }
 

@@ -4,7 +4,7 @@ use crate::certificate::{is_green, Certificate};
 use crate::reading::read;
 use crate::report::Report;
 
-/// Reads a certificate and tests both conditions: every test that comes before 12, which are 1 to 11, 22 and 23.
+/// Reads a certificate and tests both conditions: every test that comes before 12, which are 1 to 11 and 22 to 24.
 pub fn read_sound(bytes: &[u8]) -> Result<Certificate, Report> {
     let certificate = read(bytes)?;
     check_pull_sums(&certificate)?;

@@ -1,12 +1,13 @@
 //! Judging the entries of a certificate: refusals 12 to 15, the count, and how many entries may overflow.
 
-use crate::certificate::{Certificate, Entry, Link};
+use crate::certificate::{Certificate, Entry};
 use crate::conditions::read_sound;
 use crate::grid::{cells, Cell, Interval};
 use crate::image::image;
 use crate::report::{Report, Verdict};
 
-/// Judges any bytes: 0 with the count and the entries that may overflow, or the first refusal of 1 to 15, 22 and 23.
+/// Judges any bytes: 0 with the count and the entries that may overflow, or the first refusal of 1 to 15 and 22 to
+/// 24.
 pub fn judge(bytes: &[u8]) -> Verdict {
     match read_sound(bytes) {
         Ok(certificate) => judge_entries(&certificate),
@@ -43,11 +44,10 @@ fn listed_ranks(certificate: &Certificate, cells: usize) -> Vec<Vec<Option<u16>>
     ranks
 }
 
-/// Do all upper edges of the cell keep to a limit of their links?
-fn upper_edges_within(cell: &[Interval], links: &[Link], limit: fn(&Link) -> u16) -> bool {
-    cell.iter()
-        .zip(links)
-        .all(|(interval, link)| interval.high <= limit(link))
+/// Do all upper edges of the cell keep to a limit, which is told by link?
+fn upper_edges_within(cell: &[Interval], limit: impl Fn(usize) -> u16) -> bool {
+    let mut links = cell.iter().enumerate();
+    links.all(|(link, interval)| interval.high <= limit(link))
 }
 
 struct Judging<'a> {
@@ -61,12 +61,12 @@ impl Judging<'_> {
     /// some arrival box.
     fn entry(&self, number: usize, count: &mut u64) -> Result<bool, Report> {
         let entry = &self.certificate.entries[number];
-        let links = &self.certificate.links;
         let cell = &self.cells[usize::from(entry.cell)];
-        if !upper_edges_within(cell, links, |link| link.safe) {
+        if !upper_edges_within(cell, |link| self.certificate.links[link].safe) {
             return Err(Report::at(12, number));
         }
-        let in_goal = upper_edges_within(cell, links, |link| link.goal);
+        let mode = usize::from(entry.mode);
+        let in_goal = upper_edges_within(cell, |link| self.certificate.goal(mode, link));
         if (entry.rank == 0) != in_goal {
             return Err(Report::at(13, number));
         }

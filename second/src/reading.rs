@@ -1,9 +1,11 @@
-//! Reading a certificate from bytes: refusals 1 to 9, 22 and 23.
+//! Reading a certificate from bytes: refusals 1 to 9 and 22 to 24.
 
+mod modes;
 mod reader;
 
 use crate::certificate::{Arrival, Certificate, Entry, Kind, Link, Turn, MOST_AMOUNT, MOST_CELLS};
 use crate::report::Report;
+use modes::read_modes;
 use reader::{wide, Reader};
 
 /// Kind and counts of the first record.
@@ -28,6 +30,7 @@ pub fn read(bytes: &[u8]) -> Result<Certificate, Report> {
         signals: Vec::new(),
         modes: header.modes,
         memory: Vec::new(),
+        goals: Vec::new(),
         cuts: Vec::new(),
         arrivals: Vec::new(),
         entries: Vec::new(),
@@ -38,7 +41,7 @@ pub fn read(bytes: &[u8]) -> Result<Certificate, Report> {
     Ok(certificate)
 }
 
-/// Links, turns, signals and, in an H2 certificate, modes.
+/// Links, turns, signals and, but in an HD certificate, modes.
 fn read_network(
     reader: &mut Reader,
     header: &Header,
@@ -55,11 +58,8 @@ fn read_network(
         let green = read_signal(reader, header.links)?;
         certificate.signals.push(green);
     }
-    if header.kind == Kind::H2 {
-        for _ in 0..header.modes {
-            let signal = read_mode(reader, header.signals)?;
-            certificate.memory.push(signal);
-        }
+    if header.kind.has_starts() {
+        read_modes(reader, certificate)?;
     }
     Ok(())
 }
@@ -107,12 +107,9 @@ fn read_header(reader: &mut Reader) -> Result<Header, Report> {
     Ok(header)
 }
 
-/// Reads a link; in an H2 certificate two bytes more, the start flow.
+/// Reads a link; but in an HD certificate two bytes more, the start flow.
 fn read_link(reader: &mut Reader, kind: Kind) -> Result<Link, Report> {
-    let size = match kind {
-        Kind::Hd => 10,
-        Kind::H2 => 12,
-    };
+    let size = if kind.has_starts() { 12 } else { 10 };
     let record = reader.record(b"LK", size)?;
     let link = Link {
         tail: record.byte(0),
@@ -121,7 +118,7 @@ fn read_link(reader: &mut Reader, kind: Kind) -> Result<Link, Report> {
         flow: record.wide(4),
         safe: record.wide(6),
         goal: record.wide(8),
-        start: (kind == Kind::H2).then(|| record.wide(10)),
+        start: kind.has_starts().then(|| record.wide(10)),
     };
     record.must(4, link.head >= 1 && link.head != link.tail)?;
     record.must(4, (1..=MOST_AMOUNT).contains(&link.cap))?;
@@ -164,14 +161,6 @@ fn read_signal(reader: &mut Reader, links: usize) -> Result<u8, Report> {
     Ok(green)
 }
 
-/// Reads the signal that a mode remembers.
-fn read_mode(reader: &mut Reader, signals: usize) -> Result<u8, Report> {
-    let record = reader.record(b"MD", 1)?;
-    let signal = record.byte(0);
-    record.must(6, usize::from(signal) < signals)?;
-    Ok(signal)
-}
-
 /// Reads the cuts of one link. `cells` is the product of the counts so far.
 fn read_grid(reader: &mut Reader, cap: u16, cells: &mut usize) -> Result<Vec<u16>, Report> {
     let record = reader.record(b"GR", 1)?;
@@ -199,7 +188,8 @@ fn read_arrivals(reader: &mut Reader, links: usize) -> Result<Vec<Arrival>, Repo
 }
 
 /// Reads an entry; the certificate holds the entries before it. 9 is for names that do not exist, 22 for a pair that is
-/// not above the one before, 23 for a next mode that remembers another signal than the entry's.
+/// not above the one before, 23 for a next mode that remembers another signal than the entry's, 24 for a next mode with
+/// another goal number than its rank asks for.
 fn read_entry(
     reader: &mut Reader,
     certificate: &Certificate,
@@ -220,10 +210,10 @@ fn read_entry(
     if let Some(before) = certificate.entries.last() {
         record.must(22, (before.cell, before.mode) < (entry.cell, entry.mode))?;
     }
-    if certificate.kind == Kind::H2 {
-        let remembered = certificate.memory[usize::from(entry.next)];
+    if let Some(&remembered) = certificate.memory.get(usize::from(entry.next)) {
         record.must(23, remembered == entry.signal)?;
     }
+    record.must(24, certificate.keeps_turn(&entry))?;
     Ok(entry)
 }
 

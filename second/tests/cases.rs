@@ -167,9 +167,9 @@ fn bad_changes() {
 fn bad_changes_of_kinds() {
     malformed(
         "other-kind",
-        "paper f from e\nset header kind H3\n",
+        "paper f from e\nset header kind H4\n",
         "",
-        "x.cases:4: expected `HD` or `H2`, found `H3`",
+        "x.cases:4: expected `HD`, `H2` or `H3`, found `H4`",
     );
     malformed(
         "kind-twice",

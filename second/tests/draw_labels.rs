@@ -3,7 +3,7 @@
 mod common;
 
 use common::large::Large;
-use common::{bytes, crossing, start, BESIDE, L};
+use common::{bytes, crossing, header_of, start, BESIDE, L};
 use second::certificate::Kind;
 use second::draw::draw;
 
@@ -136,27 +136,32 @@ fn picture(certificate: &[u8], links: Option<[usize; 2]>) -> String {
 
 /// A certificate with these links, from tail to head, and amounts of many lengths.
 fn network(ends: &[(u8, u8)], kind: Kind) -> Vec<u8> {
-    let mut text = String::new();
+    let mut text = header_of(kind);
     for (i, (tail, head)) in ends.iter().enumerate() {
         let (amounts, start) = [
             ("cap 40 flow 12 safe 30 goal 10", " start 8"),
             ("cap 10000 flow 10000 safe 10000 goal 10000", " start 10000"),
             ("cap 120 flow 1 safe 0 goal 0", " start 1"),
         ][i % 3];
-        let start = if kind == Kind::H2 { start } else { "" };
+        let start = if kind.has_starts() { start } else { "" };
         text += &format!("link tail {tail} head {head} {amounts}{start}\n");
     }
     text += &"signal green none\n".repeat(16);
-    if kind == Kind::H2 {
-        text = format!("header kind H2\n{text}{}", "mode signal 15\n".repeat(3));
-    }
+    let goals: String = (0..ends.len())
+        .map(|i| [" 25", " 9999", " 0"][i % 3])
+        .collect();
+    text += &match kind {
+        Kind::Hd => String::new(),
+        Kind::H2 => "mode signal 15\n".repeat(3),
+        Kind::H3 => format!("mode signal 15 goal 0 goals{goals}\n").repeat(3),
+    };
     text += &"grid 1 39\n".repeat(ends.len().min(3));
     text += &"grid\n".repeat(ends.len().saturating_sub(3));
     text += &format!("arrivals{}\n", " 0-1".repeat(ends.len()));
     bytes(&(text + "entry cell 0..2 mode 0..2 signal 15 next 1 rank 65535\nend\n"))
 }
 
-/// The labels of a network stand apart in a certificate of either kind.
+/// The labels of a network stand apart in a certificate of each kind.
 fn labels_of_network(ends: &[(u8, u8)]) {
     for kind in Kind::ALL {
         let picture = picture(&network(ends, kind), None);

@@ -2,7 +2,7 @@
 
 mod common;
 
-use common::{bytes, Numbers};
+use common::{bytes, header_of, Numbers};
 use second::certificate::{is_green, Greens, Kind};
 use second::conditions::read_sound;
 use second::flow::{caps, next_queues, uncut_queues, Amounts, FINER};
@@ -13,10 +13,7 @@ use second::{judge, Certificate, Verdict};
 /// Two to five links by tail and head, and the text up to them.
 fn links(numbers: &mut Numbers, kind: Kind) -> (Vec<(u64, u64)>, String) {
     let mut ends = Vec::new();
-    let mut text = String::new();
-    if kind == Kind::H2 {
-        text += "header kind H2\n";
-    }
+    let mut text = header_of(kind);
     for _ in 0..numbers.between(2, 5) {
         let tail = numbers.between(0, 3);
         let head = 1 + (tail + numbers.between(0, 1)) % 3;
@@ -24,7 +21,7 @@ fn links(numbers: &mut Numbers, kind: Kind) -> (Vec<(u64, u64)>, String) {
         let flow = numbers.between(1, 6);
         ends.push((tail, head));
         text += &format!("link tail {tail} head {head} cap {cap} flow {flow} safe {cap} goal 0");
-        if kind == Kind::H2 {
+        if kind.has_starts() {
             text += &format!(" start {}", numbers.between(1, flow));
         }
         text += "\n";
@@ -32,8 +29,8 @@ fn links(numbers: &mut Numbers, kind: Kind) -> (Vec<(u64, u64)>, String) {
     (ends, text)
 }
 
-/// A small network of junctions 1 to 3 with random links, turns, signals and cuts. In an H2 certificate the links have
-/// start flows, and the mode remembers the second signal.
+/// A small network of junctions 1 to 3 with random links, turns, signals and cuts. But in an HD certificate the links
+/// have start flows, and the mode remembers the second signal.
 fn network(numbers: &mut Numbers, kind: Kind) -> String {
     let (ends, mut text) = links(numbers, kind);
     let count = ends.len() as u64;
@@ -49,9 +46,11 @@ fn network(numbers: &mut Numbers, kind: Kind) -> String {
     for _ in 0..2 {
         text += &format!("signal byte {:02X}\n", numbers.between(0, (1 << count) - 1));
     }
-    if kind == Kind::H2 {
-        text += "mode signal 1\n";
-    }
+    text += &match kind {
+        Kind::Hd => String::new(),
+        Kind::H2 => "mode signal 1\n".to_string(),
+        Kind::H3 => format!("mode signal 1 goal 0 goals{}\n", " 0".repeat(ends.len())),
+    };
     for _ in 0..count {
         let first = numbers.between(1, 4);
         text += &format!("grid {first} {}\n", first + numbers.between(1, 4));
@@ -123,10 +122,10 @@ fn sample(
     exceeding
 }
 
-/// Is there a turn from a green link, in an H2 certificate one that was red before?
+/// Is there a turn from a green link, where links have start flows one that was red before?
 fn is_telling(certificate: &Certificate) -> bool {
     let Greens { now, before } = greens(certificate);
-    let starts = |link| certificate.kind == Kind::Hd || !is_green(before, link);
+    let starts = |link| !certificate.kind.has_starts() || !is_green(before, link);
     let mut from = certificate.turns.iter().map(|turn| turn.from);
     from.any(|link| is_green(now, link) && starts(link))
 }

@@ -2,15 +2,9 @@
 
 mod common;
 
-use common::{as_hd, bytes, start_crossing};
+use common::{as_hd, bytes, refused, start_crossing};
 use second::reading::read;
-use second::{judge, listing, Report, Verdict};
-
-fn refused(bytes: &[u8], number: u32, a: usize) {
-    assert_eq!(read(bytes), Err(Report::at(number, a)), "{bytes:02X?}");
-    let due = Verdict::refused(Report::at(number, a));
-    assert_eq!(judge(bytes), due, "{bytes:02X?}");
-}
+use second::{judge, listing, Report};
 
 /// Three cells; modes remember signals 0, 1 and 0, and signals 0 and 2 have the same green byte.
 const NETWORK: &str = "\

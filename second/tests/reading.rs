@@ -43,7 +43,8 @@ fn wrong_mark_comes_before_a_short_record() {
     refused(b"HX", 2, 0);
     refused(b"HD", 1, 0);
     refused(b"H2", 1, 0);
-    refused(b"H3", 2, 0);
+    refused(b"H4", 2, 0);
+    refused(b"H3", 1, 0);
     refused(&l_poked(9, b"X")[..11], 2, 9);
     refused(&l_poked(9, b"X")[..10], 1, 9);
 }

@@ -3,7 +3,7 @@
 mod common;
 
 use common::large::Large;
-use common::{as_hd, bytes, start, start_crossing, start_with, START_TEXT};
+use common::{as_hd, bytes, refused, start, start_crossing, start_with, START_TEXT};
 use second::certificate::Kind;
 use second::conditions::read_sound;
 use second::reading::read;
@@ -21,12 +21,6 @@ fn poked(offset: usize, new: &[u8]) -> Vec<u8> {
     let mut bytes = start();
     bytes[offset..offset + new.len()].copy_from_slice(new);
     bytes
-}
-
-fn refused(bytes: &[u8], number: u32, a: usize) {
-    assert_eq!(read(bytes), Err(Report::at(number, a)), "{bytes:02X?}");
-    let due = Verdict::refused(Report::at(number, a));
-    assert_eq!(judge(bytes), due, "{bytes:02X?}");
 }
 
 #[test]
@@ -60,6 +54,8 @@ fn first_marks() {
                 b"H2" => None,
                 // Its links have 12 bytes, so the next mark is due where the start flow stands.
                 b"HD" => Some(Report::at(2, 21)),
+                // Its modes have four bytes with one link, and two more.
+                b"H3" => Some(Report::at(6, MD[0])),
                 _ => Some(Report::at(2, 0)),
             };
             assert_eq!(read(&bytes).err(), due, "{first} {second}");
@@ -67,7 +63,7 @@ fn first_marks() {
     }
     refused(b"H", 1, 0);
     refused(b"2", 1, 0);
-    refused(b"H3", 2, 0);
+    refused(b"H4", 2, 0);
     refused(b"H2", 1, 0);
     refused(b"H2\x01\x00\x01\x01\x01\x00", 1, 0);
     refused(b"H2\x01\x00\x01\x01\x01\x00\x01", 1, 9);
@@ -248,9 +244,6 @@ fn conditions_have_flow() {
 
 #[test]
 fn longest() {
-    let sum = 9 + 8 * 14 + 32 * 7 + 16 * 3 + 8 * 3 + 8 * (3 + 2 * 14) + 8 * 34 + 4_096 * 9 + 2;
-    assert_eq!(State::CAPACITY, sum);
-    assert_eq!(State::CAPACITY, 37_803);
     let large = Large {
         counts: [15, 15, 15, 1, 1, 1, 1, 1],
         modes: 8,

@@ -2,68 +2,14 @@
 
 mod common;
 
+use common::run::{first_queues, Run};
 use common::{as_hd, bytes, start, start_with, Numbers, START_TEXT};
-use second::certificate::{Entry, Greens};
+use second::certificate::Greens;
 use second::conditions::read_sound;
-use second::flow::{next_queues, Amounts, FINER};
-use second::grid::{cells, Cell};
+use second::flow::{next_queues, FINER};
+use second::grid::cells;
 use second::state::Answer;
-use second::{judge, Certificate, Report, State};
-
-/// A run of exact steps: queues over a scale, the mode and the signal last shown.
-struct Run<'a> {
-    certificate: &'a Certificate,
-    cells: &'a [Cell],
-    queues: Amounts,
-    scale: i128,
-    mode: u8,
-    shown: u8,
-}
-
-impl Run<'_> {
-    /// The entry in force.
-    fn entry(&self) -> Option<&Entry> {
-        let holds = |cell: &Cell| {
-            let mut links = cell.iter().zip(&self.queues);
-            links.all(|(interval, &queue)| interval.holds(queue, self.scale))
-        };
-        let cell = self.cells.iter().position(holds)?;
-        let mut entries = self.certificate.entries.iter();
-        entries.find(|entry| usize::from(entry.cell) == cell && entry.mode == self.mode)
-    }
-
-    /// Do all queues keep to a limit of their links?
-    fn keeps_to(&self, limits: impl Iterator<Item = u16>) -> bool {
-        let mut links = self.queues.iter().zip(limits);
-        links.all(|(&queue, limit)| queue <= i128::from(limit) * self.scale)
-    }
-
-    /// One step with arrivals of some box, over the run's scale.
-    fn step(&mut self, entry: &Entry, numbers: &mut Numbers) {
-        let boxes = &self.certificate.arrivals;
-        let chosen = &boxes[numbers.between(0, boxes.len() as u64 - 1) as usize];
-        let mut arrivals = [0; 8];
-        for (come, arrival) in arrivals.iter_mut().zip(chosen) {
-            let twelfths =
-                numbers.between(12 * u64::from(arrival.low), 12 * u64::from(arrival.high));
-            *come = i128::from(twelfths) * (self.scale / 12);
-        }
-        let signals = &self.certificate.signals;
-        let greens = Greens {
-            now: signals[usize::from(entry.signal)],
-            before: signals[usize::from(self.shown)],
-        };
-        self.queues = next_queues(
-            self.certificate,
-            greens,
-            &self.queues,
-            &arrivals,
-            self.scale,
-        );
-        self.scale *= FINER;
-        (self.mode, self.shown) = (entry.next, entry.signal);
-    }
-}
+use second::{judge, Report, State};
 
 /// Runs of five steps from every listed cell and mode keep what an acceptance says: the cell is listed, queues are
 /// safe, ranks fall until the goal is met. Tells how many steps followed another signal than their own.
@@ -75,20 +21,8 @@ fn runs(text: &str) -> usize {
     let mut numbers = Numbers(1);
     let mut changes = 0;
     for first in certificate.entries.iter().cycle().take(600) {
-        let mut queues = [0; 8];
-        for (queue, interval) in queues.iter_mut().zip(&cells[usize::from(first.cell)]) {
-            let (low, high) = (u64::from(interval.low), u64::from(interval.high));
-            let most = 12 * high - u64::from(!interval.last);
-            *queue = numbers.between(12 * low, most).into();
-        }
-        let mut run = Run {
-            certificate: &certificate,
-            cells: &cells,
-            queues,
-            scale: 12,
-            mode: first.mode,
-            shown: certificate.memory[usize::from(first.mode)],
-        };
+        let queues = first_queues(&cells[usize::from(first.cell)], &mut numbers);
+        let mut run = Run::begin(&certificate, &cells, queues, first.mode);
         let mut least = u32::MAX;
         for _ in 0..5 {
             let entry = run.entry().expect("an entry in force").clone();

@@ -145,7 +145,7 @@ fn more_bad_lines() {
     fault(
         "header turns 1 links 1",
         1,
-        "expected `kind H2`, `links`, `turns`, `signals`, `modes`, `arrivals` and `entries`, \
+        "expected `kind H2` or `kind H3`, `links`, `turns`, `signals`, `modes`, `arrivals` and `entries`, \
          each at most once and in this order, found `links`",
     );
     fault(

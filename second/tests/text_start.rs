@@ -91,16 +91,20 @@ fn count_of_modes() {
 
 #[test]
 fn bad_headers() {
-    fault("header kind", 1, "expected `H2`, found the end of the line");
-    for kind in ["HD", "H3", "h2", "2"] {
+    fault(
+        "header kind",
+        1,
+        "expected `H2` or `H3`, found the end of the line",
+    );
+    for kind in ["HD", "H4", "h2", "2"] {
         fault(
             &format!("header kind {kind}\nend"),
             1,
-            &format!("expected `H2`, found `{kind}`"),
+            &format!("expected `H2` or `H3`, found `{kind}`"),
         );
     }
     let expected =
-        "expected `kind H2`, `links`, `turns`, `signals`, `modes`, `arrivals` and `entries`, \
+        "expected `kind H2` or `kind H3`, `links`, `turns`, `signals`, `modes`, `arrivals` and `entries`, \
          each at most once and in this order, found";
     fault("header links 1 kind H2", 1, &format!("{expected} `kind`"));
     fault("header kind H2 kind H2", 1, &format!("{expected} `kind`"));

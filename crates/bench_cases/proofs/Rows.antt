@@ -3,10 +3,10 @@ use mathlib.Core.List.{List, [], _∷_, map, List·Memᴰ, List·Memᴰ·not-nil
 use mathlib.Core.Logic.{⊎-elim}
 use mathlib.Core.Path.{_≡_, refl}
 use Rattle.certificate.specs.Octets.{bitOf, _also_}
-use Rattle.certificate.specs.Loops.{sumTo, anyTo, everyOf, everyFrom, firstOfThese, findFrom, rounds, loopFrom}
+use Rattle.certificate.specs.Loops.{sumTo, greatestTo, anyTo, everyOf, everyFrom, firstOfThese, findFrom, rounds, loopFrom}
 use Rattle.certificate.specs.Checks.{need, orElse, firstOf, firstFrom, marked, opened}
-use Rattle.certificate.specs.Layout.{remembers, linkSize, startFlowOf, turnsStart, signalsStart, modeRecordsOf, modesStart, shownBefore, gridStart, gridAt, productOf, arrivalsStart, entriesStart, endAt}
-use Rattle.certificate.specs.Records.{headerOk, headerMarked, headerFault, linkOk, linkFault, pairBelow, turnAscends, shareTotal, turnOk, turnFault, signalOk, signalFault, modeOk, modeFault, cutBefore, cutOk, cutFault, countOk, gridFault, rangeOk, rangeFault, arrivalFault, entryAscends, namesExist, passesOn, entryFault, endFault}
+use Rattle.certificate.specs.Layout.{remembers, takesTurns, linkSize, startFlowOf, turnsStart, signalsStart, modeRecordsOf, modesStart, modeSize, shownBefore, goalNumberOf, goalFor, greatestGoal, nextGoal, gridStart, gridAt, productOf, arrivalsStart, entriesStart, endAt}
+use Rattle.certificate.specs.Records.{headerOk, headerMarked, headerFault, linkOk, linkFault, pairBelow, turnAscends, shareTotal, turnOk, turnFault, signalOk, signalFault, goalsSafe, sameGoals, goalsAgree, isUsed, noGap, goalsOk, modeOk, modeFault, cutBefore, cutOk, cutFault, countOk, gridFault, rangeOk, rangeFault, arrivalFault, entryAscends, namesExist, passesOn, turnsOn, entryFault, endFault}
 use Rattle.certificate.specs.Reading.{linksFault, turnsFault, signalsFault, modesFault, gridsFault, arrivalsFault, entriesFault, readingOf}
 use Rattle.network.specs.Flow.{leastTo, sent, passedIn, gross, next}
 use Rattle.network.specs.Conditions.{pullSum, pullFault, signalPullsFault, pullsFault, roomOk, roomFault, roomsFault, screeningOf}
@@ -30,7 +30,7 @@ due : Row → Answer
 due r = r .due
 
 computed : map given rows ≡ map due rows
-unfolding given due rows answer bitOf _also_ sumTo anyTo everyOf everyFrom firstOfThese findFrom rounds loopFrom need orElse firstOf firstFrom marked opened remembers linkSize startFlowOf turnsStart signalsStart modeRecordsOf modesStart shownBefore gridStart gridAt productOf arrivalsStart entriesStart endAt headerOk headerMarked headerFault linkOk linkFault pairBelow turnAscends shareTotal turnOk turnFault signalOk signalFault modeOk modeFault cutBefore cutOk cutFault countOk gridFault rangeOk rangeFault arrivalFault entryAscends namesExist passesOn entryFault endFault linksFault turnsFault signalsFault modesFault gridsFault arrivalsFault entriesFault readingOf leastTo sent passedIn gross next pullSum pullFault signalPullsFault pullsFault roomOk roomFault roomsFault screeningOf beside lowCorner highCorner exceedsCap upperEdge intervalAt numberOf prefixOf intervalIn cellAt imageLow imageHigh imageOver meets isSuccessor entryFor isListed isSafe isGoal isRanked standingFault follows isLower successorFault countAfter lookFault cellRound boxRound entryRound judgingFrom verdictOf boxOverflows entryOverflows overflowsBefore overflowsOf isProper cellFault lookupFault isCertificate queryFault queryOf
+unfolding given due rows answer bitOf _also_ sumTo greatestTo anyTo everyOf everyFrom firstOfThese findFrom rounds loopFrom need orElse firstOf firstFrom marked opened remembers takesTurns linkSize startFlowOf turnsStart signalsStart modeRecordsOf modesStart modeSize shownBefore goalNumberOf goalFor greatestGoal nextGoal gridStart gridAt productOf arrivalsStart entriesStart endAt headerOk headerMarked headerFault linkOk linkFault pairBelow turnAscends shareTotal turnOk turnFault signalOk signalFault goalsSafe sameGoals goalsAgree isUsed noGap goalsOk modeOk modeFault cutBefore cutOk cutFault countOk gridFault rangeOk rangeFault arrivalFault entryAscends namesExist passesOn turnsOn entryFault endFault linksFault turnsFault signalsFault modesFault gridsFault arrivalsFault entriesFault readingOf leastTo sent passedIn gross next pullSum pullFault signalPullsFault pullsFault roomOk roomFault roomsFault screeningOf beside lowCorner highCorner exceedsCap upperEdge intervalAt numberOf prefixOf intervalIn cellAt imageLow imageHigh imageOver meets isSuccessor entryFor isListed isSafe isGoal isRanked standingFault follows isLower successorFault countAfter lookFault cellRound boxRound entryRound judgingFrom verdictOf boxOverflows entryOverflows overflowsBefore overflowsOf isProper cellFault lookupFault isCertificate queryFault queryOf
 computed = refl
 
 each : (l : List Row) {r : Row} → map given l ≡ map due l → List·Memᴰ r l → given r ≡ due r

@@ -123,3 +123,14 @@ paperStart =
 -- the same as HD
 abbrev pub paperStartPlain : List ℕ
 paperStartPlain = (0x48 ∷ 0x44 ∷ 1 ∷ 0 ∷ 2 ∷ 3 ∷ 1 ∷ 0 ∷ 6 ∷ []) ++ oneLink ++ greenThenRed ++ gridAndEntries
+
+-- turns: H3, one link with start flow 6, two modes that take turns with goals 5 and 8, by the next mode of its first entry
+abbrev pub goalMode : ℕ → ℕ → List ℕ
+goalMode number goal = 0x4D ∷ 0x44 ∷ 0 ∷ number ∷ 0 ∷ goal ∷ []
+
+abbrev pub paperTurns : ℕ → List ℕ
+paperTurns next =
+    (0x48 ∷ 0x33 ∷ 1 ∷ 0 ∷ 1 ∷ 2 ∷ 1 ∷ 0 ∷ 6 ∷ []) ++ startLink oneLink 6 ++ (0x53 ∷ 0x47 ∷ 0b1 ∷ []) ++ goalMode 0 5 ++ goalMode 1 8
+    ++ (0x47 ∷ 0x52 ∷ 3 ∷ 0 ∷ 5 ∷ 0 ∷ 8 ∷ []) ++ (0x41 ∷ 0x52 ∷ 0 ∷ 0 ∷ 0 ∷ 2 ∷ [])
+    ++ greenEntry 0 0 next 0 ++ greenEntry 0 1 0 0 ++ greenEntry 1 0 0 1 ++ greenEntry 1 1 0 0 ++ greenEntry 2 0 0 2 ++ greenEntry 2 1 1 1
+    ++ (0x5A ∷ 0x5A ∷ [])

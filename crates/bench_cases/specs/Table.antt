@@ -1,4 +1,4 @@
--- Bench cases P1 to P11 as rows of one table, with rows for H2: what is asked, and what is due.
+-- Bench cases P1 to P11 as rows of one table, with rows for H2 and H3: what is asked, and what is due.
 use Prim.Native.Nat.{ℕ, _*_}
 use mathlib.Core.List.{List, [], _∷_, List·Memᴰ}
 use mathlib.Core.Path.{_≡_}
@@ -17,7 +17,7 @@ use Rattle.judging.specs.Overflow.{overflowsOf}
 use Rattle.controller.specs.declared.Shown.{Shown}
 use Rattle.controller.specs.State.{holding}
 use Rattle.controller.specs.Query.{entryAsked, queryOf}
-use Rattle.bench_cases.specs.Papers.{paperOne, paperTwo, paperThree, paperFour, paperFive, twoLinks, redLink, twoIn, fork, twoLinksStart, paperStart, paperStartPlain}
+use Rattle.bench_cases.specs.Papers.{paperOne, paperTwo, paperThree, paperFour, paperFive, twoLinks, redLink, twoIn, fork, twoLinksStart, paperStart, paperStartPlain, paperTurns}
 
 -- what a row asks of a certificate
 pub data Question : Type 0 where
@@ -116,6 +116,10 @@ rows =
     ∷ row (verdict paperStart) (report (result 0 0 0 9))
     ∷ row (overflows paperStart) (entries 0)
     ∷ row (verdict paperStartPlain) (report (result 14 4 0 6))
+    -- turns: rank 0 passes to the other goal; an entry of rank 0 that stays with its own is 24
+    ∷ row (verdict (paperTurns 1)) (report (result 0 0 0 8))
+    ∷ row (overflows (paperTurns 1)) (entries 0)
+    ∷ row (verdict (paperTurns 0)) (report (refusal 24 51))
     ∷ []
 
 -- the theorem about all rows: every row's question is answered as due (proved in proofs/Rows.antt)

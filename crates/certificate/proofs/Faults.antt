@@ -18,8 +18,9 @@ use Rattle.certificate.proofs.Tests.{need-pass, or-next, or-stop, or-bo
 use Rattle.certificate.proofs.Says.{tests-say}
 use Rattle.certificate.proofs.Ascending.{ascends-says}
 use Rattle.certificate.proofs.Records.{header-marked-says, header-says, link-says, turn-says, signal-says, mode-says, grid-says, box-says, passes-says, entry-says, end-says}
+use Rattle.certificate.proofs.Goals.{turns-say}
 use Rattle.certificate.proofs.KindOrder.{placed}
-use Rattle.certificate.proofs.FieldTests.{Test, fields, order, memory, kindOf, testNumber, Asks, Broken, none-earlier, names-earlier, order-earlier}
+use Rattle.certificate.proofs.FieldTests.{Test, fields, order, memory, goal, kindOf, testNumber, Asks, Broken, none-earlier, names-earlier, order-earlier, memory-earlier}
 use Rattle.certificate.proofs.Opening.{Opening, absent, wrong, short, opens, fails, opening, marked-opening}
 
 -- the tests of record i of a kind
@@ -76,7 +77,7 @@ record-says s TN i =
     let above = ascends-says (fromOf s) (toOf s) (turnAscends s) refl (λ t. refl) i in
     ((λ z. let h = turn-says s i .0 z in (h .0, (h .1, above .0 (h .2), h .3))), (λ p. turn-says s i .1 (p .0, p .1 .0, above .1 (p .1 .1), p .1 .2)))
 record-says s SG i = signal-says s i
-record-says s MD i = mode-says s i
+record-says s MD i = ((λ z. let h = mode-says s i .0 z in (h .0, (h .1, h .2, h .3))), (λ p. mode-says s i .1 (p .0, p .1 .0, p .1 .1, p .1 .2)))
 record-says s GR i = (
   (λ z. let h = grid-says s i .0 z in ((omega (arith, h .0, h .1 .count-least), (λ _. h .0)), h .1)),
   (λ p. grid-says s i .1 (p .0 .1 (counted (p .1)), p .1)),
@@ -84,7 +85,7 @@ record-says s GR i = (
 record-says s AR i = box-says s i
 record-says s EN i =
     let above = ascends-says (cellOf s) (modeOf s) (entryAscends s) refl (λ e. refl) i in
-    ((λ z. let h = entry-says s i .0 z in (h .0, (h .1, above .0 (h .2), h .3))), (λ p. entry-says s i .1 (p .0, p .1 .0, above .1 (p .1 .1), p .1 .2)))
+    ((λ z. let h = entry-says s i .0 z in (h .0, (h .1, above .0 (h .2), h .3, h .4))), (λ p. entry-says s i .1 (p .0, p .1 .0, above .1 (p .1 .1), p .1 .2, p .1 .3)))
 record-says s ZZ i = ((λ z. let h = end-says s .0 z in (omega (arith, h .0), (h .1, h .0))), (λ p. end-says s .1 (p .1 .1, p .1 .0)))
 
 -- a test that gives `fine` or r, and a loop of such tests
@@ -165,7 +166,7 @@ grid-answer s l =
     not-seven : _≡_ {A = ℕ} 7 0 → ⊥
     not-seven e = omega arith
 
--- EN: the names are tested before the order, and the order before what the entry passes on
+-- EN: the names are tested before the order, the order before what the entry passes on, and its goal number last
 names-say : (s : List ℕ) (e : ℕ) → Mark s (entryAt s e) 69 78 → (namesExist s e ≡ true) ↔ EntryFacts s e
 unfolding namesExist
 names-say s e mark = simp tests-say (omega arith)
@@ -182,7 +183,9 @@ entry-answer s e =
     (λ bad. inr (breaks order refl (mark, whole, names-earlier s e names, fails (above .1) bad) refl)) λ ascends.
     by-need (Answer s EN e) _
     (λ bad. inr (breaks memory refl (mark, whole, order-earlier s e names (above .0 ascends), fails (passes-says s e .1) bad) refl)) λ on.
-    inl ((whole, (names, above .0 ascends, passes-says s e .0 on)), refl)
+    by-need (Answer s EN e) _
+    (λ bad. inr (breaks goal refl (mark, whole, memory-earlier s e names (above .0 ascends) (passes-says s e .0 on), fails (turns-say s e .1) bad) refl)) λ turn.
+    inl ((whole, (names, above .0 ascends, passes-says s e .0 on, turns-say s e .0 turn)), refl)
 
 pub answer : (s : List ℕ) (k : Kind) (i : ℕ) → Answer s k i (faultOf s k i)
 unfolding headerFault linkFault turnFault signalFault modeFault arrivalFault rangeFault endFault

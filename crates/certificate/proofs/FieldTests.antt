@@ -1,35 +1,38 @@
--- The tests of a record's fields, one refusal each: one of every kind, and of an entry three. Assumes nothing.
+-- The tests of a record's fields, one refusal each: one of every kind, and of an entry four. Assumes nothing.
 use Prim.Native.Nat.{ℕ, zero, suc, _+_, _≤_, _<_}
 use mathlib.Core.List.{List}
 use mathlib.Core.Bool.{Bool, true, false, cond, false≢true}
 use mathlib.Core.Path.{_≡_, refl, sym, ap, _∙_}
 use mathlib.Core.Logic.{_↔_, _⊎_, inl, inr, ⊎-elim}
 use native.Mathlib.Omega.{arith}
-use borrow.Author.Tests.{ltb-true, ltb-false, le-leb}
+use borrow.Author.Tests.{ltb-true, ltb-false, le-leb, eqb-true, eqb-false}
 use lib.Dec.{ltb, leb, eqb}
-use Rattle.certificate.specs.Layout.{signalsOf, modesOf, remembers, shownBefore, cellsOf, cellOf, modeOf, signalOf, nextModeOf}
-use Rattle.certificate.specs.Facts.{PairBelow, EntryFacts, PassesOn}
-use Rattle.certificate.specs.Due.{Kind, HD, LK, TN, SG, MD, GR, AR, EN, ZZ, fieldNumber, Marked, Whole, Above, Line, BrokenLine, Missing, MissingName, WrongOrder, OtherSignal}
+use Rattle.certificate.specs.Layout.{signalsOf, modesOf, remembers, shownBefore, goalNumberOf, nextGoal, cellsOf, cellOf, modeOf, signalOf, nextModeOf, rankOf}
+use Rattle.certificate.specs.Facts.{PairBelow, EntryFacts, PassesOn, TurnsOn}
+use Rattle.certificate.specs.Due.{Kind, HD, LK, TN, SG, MD, GR, AR, EN, ZZ, fieldNumber, Marked, Whole, Above, Line, BrokenLine, Missing, MissingName, WrongOrder, OtherSignal, OtherNumber, OtherGoal}
 use Rattle.certificate.specs.Due.Missing.{cell, mode, signal, next-mode}
-use Rattle.certificate.specs.Laws.{ReadingNumber, up-to-nine, of-order, of-memory}
+use Rattle.certificate.specs.Due.OtherNumber.{changes, not-next}
+use Rattle.certificate.specs.Laws.{ReadingNumber, up-to-nine, of-order, of-memory, of-goal}
 use Rattle.certificate.proofs.KindOrder.{kindAt, numberOrder, placed, kind-six}
 
--- the fields by themselves, then the order of entries, then what they pass on
+-- the fields by themselves, then the order of entries, then what they pass on, then their goal numbers
 pub data Test : Type 0 where
   fields : Kind → Test
-  order memory : Test
+  order memory goal : Test
 
 -- the kind of record that it tests
 abbrev pub kindOf : Test → Kind
 kindOf (fields k) = k
 kindOf order = EN
 kindOf memory = EN
+kindOf goal = EN
 
 -- its refusal
 abbrev pub testNumber : Test → ℕ
 testNumber (fields k) = fieldNumber k
 testNumber order = 22
 testNumber memory = 23
+testNumber goal = 24
 
 -- what it asks
 abbrev pub Asks : List ℕ → Test → ℕ → Type 0
@@ -44,6 +47,7 @@ Asks s (fields EN) i = EntryFacts s i
 Asks s (fields ZZ) i = Line s ZZ i
 Asks s order i = Above (cellOf s) (modeOf s) i
 Asks s memory i = PassesOn s i
+Asks s goal i = TurnsOn s i
 
 -- the tests of the same record that come before it: those with a smaller number
 abbrev pub Earlier : List ℕ → Test → ℕ → Type 0
@@ -57,21 +61,24 @@ pub test-least : (t : Test) → 2 ≤ testNumber t
 test-least (fields k) = placed k .least
 test-least order = omega arith
 test-least memory = omega arith
+test-least goal = omega arith
 
 pub test-number : (t : Test) → ReadingNumber (testNumber t)
 test-number (fields k) = up-to-nine (placed k .most)
 test-number order = of-order refl
 test-number memory = of-memory refl
+test-number goal = of-goal refl
 
 -- a test is told by the kind of its record and its number
 testAt : Kind → ℕ → Test
-testAt k n = cond (leb n 9) (fields k) (cond (eqb n 22) order memory)
+testAt k n = cond (leb n 9) (fields k) (cond (eqb n 22) order (cond (eqb n 23) memory goal))
 
 test-at : (t : Test) → testAt (kindOf t) (testNumber t) ≡ t
 unfolding testAt
 test-at (fields k) = rw (le-leb _ _ (placed k .most))
 test-at order = refl
 test-at memory = refl
+test-at goal = refl
 
 same-record : (t u : Test) → kindOf t ≡ kindOf u → testNumber t ≡ testNumber u → t ≡ u
 same-record t u same e = sym (test-at t) ∙ rw (same, e) (test-at u)
@@ -85,6 +92,7 @@ unfolding kindBy
 kind-by (fields k) other = rw (le-leb _ _ (placed k .most), placed k .by-number other) (placed k .at)
 kind-by order other = refl
 kind-by memory other = refl
+kind-by goal other = refl
 
 pub same-test : (t u : Test) → testNumber t ≡ testNumber u → (testNumber u ≡ 6 → ⊥) → t ≡ u
 same-test t u e other = same-record t u (sym (kind-by t (λ six. other (sym e ∙ six))) ∙ ap kindBy e ∙ kind-by u other) e
@@ -93,6 +101,7 @@ pub number-six : (t : Test) → testNumber t ≡ 6 → (t ≡ fields SG) ⊎ (t 
 number-six (fields k) e = ⊎-elim (λ same. inl (ap fields same)) (λ same. inr (ap fields same)) (kind-six k e)
 number-six order e = absurd (omega arith)
 number-six memory e = absurd (omega arith)
+number-six goal e = absurd (omega arith)
 
 -- a number whose pair is not above that of the one before it has one before it
 not-above : (f g : ℕ → ℕ) (i : ℕ) → (Above f g i → ⊥) → (h : ℕ) × (h + 1 ≡ i) × (PairBelow (f h) (g h) (f i) (g i) → ⊥)
@@ -113,6 +122,7 @@ module _ (s : List ℕ) (i : ℕ) where
   line-asks (fields ZZ) line = line
   line-asks order line = line .1
   line-asks memory line = line .2
+  line-asks goal line = line .3
 
   -- only one test of a record is the first that fails
   pub one-broken : (t u : Test) → kindOf t ≡ kindOf u → Broken s t i → Broken s u i → t ≡ u
@@ -123,21 +133,30 @@ module _ (s : List ℕ) (i : ℕ) where
       go false p true q = absurd (g .3 (f .2 u (sym same) (ltb-true _ _ q)))
       go false p false q = same-record t u same (omega (arith, ltb-false (testNumber t) (testNumber u) p, ltb-false (testNumber u) (testNumber t) q))
 
-  -- nothing is tested before the fields, and of an entry the names before the order, and both before what it passes on
+  -- nothing is tested before the fields, and of an entry the names before the order, both before what it passes on, and all before its goal number
   pub none-earlier : (k : Kind) → Earlier s (fields k) i
   none-earlier k (fields j) same less = absurd (omega (arith, ap fieldNumber same))
   none-earlier k order same less = absurd (omega (arith, placed k .most))
   none-earlier k memory same less = absurd (omega (arith, placed k .most))
+  none-earlier k goal same less = absurd (omega (arith, placed k .most))
 
   pub names-earlier : EntryFacts s i → Earlier s order i
   names-earlier facts (fields j) same less = rw same facts
   names-earlier facts order same less = absurd (omega arith)
   names-earlier facts memory same less = absurd (omega arith)
+  names-earlier facts goal same less = absurd (omega arith)
 
   pub order-earlier : EntryFacts s i → Above (cellOf s) (modeOf s) i → Earlier s memory i
   order-earlier facts above (fields j) same less = rw same facts
   order-earlier facts above order same less = above
   order-earlier facts above memory same less = absurd (omega arith)
+  order-earlier facts above goal same less = absurd (omega arith)
+
+  pub memory-earlier : EntryFacts s i → Above (cellOf s) (modeOf s) i → PassesOn s i → Earlier s goal i
+  memory-earlier facts above on (fields j) same less = rw same facts
+  memory-earlier facts above on order same less = above
+  memory-earlier facts above on memory same less = on
+  memory-earlier facts above on goal same less = absurd (omega arith)
 
   -- the first test that fails, in plain terms (specs/Due.antt)
   pub broken-line : (k : Kind) → Asks s (fields k) i ↔ Line s k i → Broken s (fields k) i ↔ BrokenLine s k i
@@ -185,4 +204,23 @@ module _ (s : List ℕ) (i : ℕ) where
   other-signal = (
     (λ f. (f .1, f .2 (fields EN) refl (omega arith), f .2 order refl (omega arith), must-remember (remembers s) (f .3), λ e. f .3 (λ _. e))),
     (λ f. (f .1 .mark, f .0, order-earlier (f .1) (f .2), λ on. f .4 (on (f .3)))),
+  )
+
+  other-number : (TurnsOn s i → ⊥) → OtherNumber s i
+  other-number bad = go (eqb (rankOf s i) 0) refl
+    where
+      go : (b : Bool) → eqb (rankOf s i) 0 ≡ b → OtherNumber s i
+      go true z = not-next (eqb-true _ _ z) (λ e. bad (record { stays = λ above. absurd (omega (arith, eqb-true (rankOf s i) 0 z)); passes = λ _. e }))
+      go false z =
+          let above : 0 < rankOf s i = omega (arith, eqb-false (rankOf s i) 0 z) in
+          changes above (λ e. bad (record { stays = λ _. e; passes = λ none. absurd (omega arith) }))
+
+  not-other : OtherNumber s i → TurnsOn s i → ⊥
+  not-other (changes above bad) on = bad (on .stays above)
+  not-other (not-next none bad) on = bad (on .passes none)
+
+  pub other-goal : Broken s goal i ↔ OtherGoal s i
+  other-goal = (
+    (λ f. (f .1, f .2 (fields EN) refl (omega arith), f .2 order refl (omega arith), f .2 memory refl (omega arith), other-number (f .3))),
+    (λ f. (f .1 .mark, f .0, memory-earlier (f .1) (f .2) (f .3), not-other (f .4))),
   )

@@ -7,7 +7,7 @@ use native.Mathlib.Omega.{arith}
 use lib.Dec.{leb, eqb}
 use Rattle.certificate.specs.Loops.{pick}
 use Rattle.certificate.specs.Due.{Kind, HD, LK, TN, SG, MD, GR, AR, EN, ZZ, orderOf, fieldNumber, Present, Marked, Whole, Line, TooShort, WrongMark}
-use Rattle.certificate.proofs.KindSizes.{link-least}
+use Rattle.certificate.proofs.KindSizes.{link-least, mode-least}
 
 -- the kind of a place in the order, and the place of the kind with a refusal
 unfoldable pub kindAt : ℕ → Kind
@@ -80,7 +80,7 @@ whole-present s HD i whole = omega arith
 whole-present s LK i whole = omega (arith, link-least s)
 whole-present s TN i whole = omega arith
 whole-present s SG i whole = omega arith
-whole-present s MD i whole = omega arith
+whole-present s MD i whole = omega (arith, mode-least s)
 whole-present s GR i whole = omega (arith, whole .0)
 whole-present s AR i whole = omega arith
 whole-present s EN i whole = omega arith
@@ -91,7 +91,7 @@ line-marked s HD i line = line .mark
 line-marked s LK i line = line .mark
 line-marked s TN i line = line .0 .mark
 line-marked s SG i line = line .mark
-line-marked s MD i line = line .mark
+line-marked s MD i line = line .0 .mark
 line-marked s GR i line = line .mark
 line-marked s AR i line = line .mark
 line-marked s EN i line = line .0 .mark

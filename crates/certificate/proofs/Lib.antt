@@ -4,9 +4,10 @@ pub mod Loops
 pub mod Says
 pub mod Ascending
 pub mod Shares
-pub mod Records
 pub mod KindSizes
 pub mod KindLaws
+pub mod Goals
+pub mod Records
 pub mod Offsets
 pub mod Plain
 pub mod Size

@@ -9,11 +9,11 @@ use borrow.Author.Tests.{leb-true, ltb-true, lt-leb}
 use lib.ListN.{length}
 use Rattle.certificate.specs.Octets.{byteAt}
 use Rattle.certificate.specs.Checks.{refusal}
-use Rattle.certificate.specs.Layout.{maxLinks, maxBoxes, maxEntries, maxIntervals, gridSize, arrivalSize, entrySize, endSize, linksOf, modesOf, boxesOf, entriesOf, capOf, gridStart, gridAt, intervalsOf, cutOf, productOf, cellsOf, arrivalsStart, arrivalAt, lowOf, highOf, entriesStart, entryAt, cellOf, modeOf, signalOf, nextModeOf, endAt}
-use Rattle.certificate.specs.Records.{cutBefore, cutOk, cutFault, countOk, gridFault, rangeOk, rangeFault, arrivalFault, namesExist, entryAscends, passesOn, entryFault, endFault}
+use Rattle.certificate.specs.Layout.{maxLinks, maxBoxes, maxEntries, maxIntervals, gridSize, arrivalSize, entrySize, endSize, linksOf, modesOf, boxesOf, entriesOf, capOf, gridStart, gridAt, intervalsOf, cutOf, productOf, cellsOf, arrivalsStart, arrivalAt, lowOf, highOf, entriesStart, entryAt, cellOf, modeOf, signalOf, nextModeOf, rankOf, endAt}
+use Rattle.certificate.specs.Records.{cutBefore, cutOk, cutFault, countOk, gridFault, rangeOk, rangeFault, arrivalFault, namesExist, entryAscends, passesOn, turnsOn, entryFault, endFault}
 use Rattle.certificate.proofs.Tests.{also-both, need-both, or-both}
 use Rattle.certificate.proofs.Agreement.{or-same, need-same, loop-same, Agree, byte-same, u16-same, present, marked-opened}
-use Rattle.certificate.proofs.LongFront.{Counts, links-same, signals-same, modes-same, boxes-same, entries-same, gridsMost, remembers-same, link-u16, shown-same, grid-start, grid-most}
+use Rattle.certificate.proofs.LongFront.{Counts, links-same, signals-same, modes-same, boxes-same, entries-same, gridsMost, remembers-same, link-u16, shown-same, number-same, next-same, grid-start, grid-most}
 
 -- a grid record that passes has at most 15 intervals
 intervals-most : (s : List ℕ) (l : ℕ) → countOk s l ≡ true → intervalsOf s l ≤ maxIntervals
@@ -149,6 +149,16 @@ module _ {s t : List ℕ} (A : Agree s t) (C : Counts s) where
         let exists : nextModeOf s e < modesOf s = ltb-true _ _ (also-both _ _ names .1) in
         rw (shown-same A C (nextModeOf s e) exists, remembers-same A, signal, next)
 
+    -- and so are the goal numbers
+    turns : (e : ℕ) → e < entriesOf s → nextModeOf s e ≡ nextModeOf t e → namesExist s e ≡ true → turnsOn s e ≡ turnsOn t e
+    unfolding turnsOn namesExist
+    turns e h next names =
+        let last = also-both _ _ names in
+        let exists : nextModeOf s e < modesOf s = ltb-true _ _ (last .1) in
+        let held : modeOf s e < modesOf s = ltb-true _ _ (also-both _ _ (also-both _ _ (last .0) .0) .1) in
+        let rank : rankOf s e ≡ rankOf t e = u16-same A (omega (arith, entries-start)) (omega (arith, entries-most, C .entries)) in
+        rw (number-same A C (nextModeOf s e) exists, number-same A C (modeOf s e) held, next, mode-same e h, rank, next-same A C)
+
     pub entry-same : (e : ℕ) → e < entriesOf s → entryFault s e ≡ entryFault t e
     unfolding entryFault namesExist
     entry-same e h =
@@ -161,7 +171,8 @@ module _ {s t : List ℕ} (A : Agree s t) (C : Counts s) where
         or-same (marked-opened A _ _ place refl (omega arith) (omega (arith, entries-most, C .entries)))
         (λ _. need-same (cc) (ap (refusal _) place)
         (λ exist. need-same (cc) (ap (refusal _) place)
-        (λ _. need-same (passes e signal next exist) (ap (refusal _) place) (λ _. refl))))
+        (λ _. need-same (passes e signal next exist) (ap (refusal _) place)
+        (λ _. need-same (turns e h next exist) (ap (refusal _) place) (λ _. refl)))))
 
     -- both strings go on after ZZ, so both are refused there
     pub end-same : endFault s ≡ endFault t

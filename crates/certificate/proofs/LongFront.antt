@@ -5,15 +5,16 @@ use mathlib.Core.Bool.{Bool, true}
 use mathlib.Core.Path.{_≡_, refl, ap, _∙_}
 use native.Mathlib.Omega.{arith}
 use borrow.Author.Tests.{leb-true, ltb-true}
-use lib.Dec.{ltb, eqb}
+use lib.Dec.{ltb, leb, eqb}
+use Rattle.certificate.specs.Loops.{greatestTo, anyTo, every}
 use Rattle.certificate.specs.Octets.{byteAt, u16At, _also_}
 use Rattle.certificate.specs.Checks.{refusal}
-use Rattle.certificate.specs.Layout.{maxLinks, maxTurns, maxSignals, maxModes, maxBoxes, maxEntries, headerSize, maxLinkSize, turnSize, signalSize, modeSize, linksOf, turnsOf, signalsOf, modesOf, boxesOf, entriesOf, remembers, linkSize, linkAt, tailOf, headOf, capOf, flowOf, safeOf, goalOf, startFlowOf, turnsStart, turnAt, fromOf, toOf, shareOf, pullOf, signalsStart, greenByteOf, modeRecordsOf, modesStart, modeAt, shownBefore, gridStart}
-use Rattle.certificate.specs.Records.{headerOk, headerMarked, headerFault, linkOk, linkFault, turnAscends, shareTotal, turnOk, turnFault, signalOk, signalFault, modeOk, modeFault}
+use Rattle.certificate.specs.Layout.{maxLinks, maxTurns, maxSignals, maxModes, maxBoxes, maxEntries, headerSize, maxLinkSize, turnSize, signalSize, goalModeSize, linksOf, turnsOf, signalsOf, modesOf, boxesOf, entriesOf, remembers, takesTurns, linkSize, linkAt, tailOf, headOf, capOf, flowOf, safeOf, goalOf, startFlowOf, turnsStart, turnAt, fromOf, toOf, shareOf, pullOf, signalsStart, greenByteOf, modeRecordsOf, modesStart, modeSize, modeAt, shownBefore, goalNumberOf, goalFor, greatestGoal, nextGoal, gridStart}
+use Rattle.certificate.specs.Records.{headerOk, headerMarked, headerFault, linkOk, linkFault, turnAscends, shareTotal, turnOk, turnFault, signalOk, signalFault, goalsSafe, sameGoals, goalsAgree, isUsed, noGap, goalsOk, modeOk, modeFault}
 use Rattle.certificate.proofs.Tests.{also-both, need-both, or-both}
-use Rattle.certificate.proofs.Loops.{sum-same}
+use Rattle.certificate.proofs.Loops.{sum-same, greatest-same, any-same, every-same}
 use Rattle.certificate.proofs.Agreement.{also-same, or-same, need-same, Agree, byte-same, u16-same, marked-same, opened-same, marked-opened, record-same}
-use Rattle.certificate.proofs.KindSizes.{link-least, records-most, links-most, link-step}
+use Rattle.certificate.proofs.KindSizes.{link-least, mode-least, records-most, links-most, link-step, all-modes-most, mode-step}
 
 -- what a header that passes says of where the other records stand
 pub record Counts (s : List ℕ) : Type 0 where
@@ -52,7 +53,7 @@ abbrev modesMost : ℕ
 modesMost = signalsMost + maxSignals * signalSize
 
 abbrev pub gridsMost : ℕ
-gridsMost = modesMost + maxModes * modeSize
+gridsMost = modesMost + maxModes * goalModeSize maxLinks
 
 -- the links that turn k names exist
 abbrev exist : List ℕ → ℕ → Bool
@@ -83,6 +84,14 @@ module _ {s t : List ℕ} (A : Agree s t) where
   unfolding remembers
   remembers-same = let e : byteAt s 1 ≡ byteAt t 1 = byte-same A refl (omega arith) in cc
 
+  turning-same : takesTurns s ≡ takesTurns t
+  unfolding takesTurns
+  turning-same = let e : byteAt s 1 ≡ byteAt t 1 = byte-same A refl (omega arith) in cc
+
+  mode-size : modeSize s ≡ modeSize t
+  unfolding modeSize
+  mode-size = rw (turning-same, links-same)
+
   size-same : linkSize s ≡ linkSize t
   unfolding linkSize
   size-same = rw remembers-same
@@ -97,7 +106,7 @@ module _ {s t : List ℕ} (A : Agree s t) where
   pub header-same : headerFault s ≡ headerFault t
   unfolding headerFault headerOk headerMarked
   header-same =
-      or-same (opened-same A (cc (marked-same A 72 68 {o = 0} refl (omega arith), marked-same A 72 50 {o = 0} refl (omega arith))) refl refl (omega arith) (omega arith))
+      or-same (opened-same A (cc (marked-same A 72 68 {o = 0} refl (omega arith), marked-same A 72 50 {o = 0} refl (omega arith), marked-same A 72 51 {o = 0} refl (omega arith))) refl refl (omega arith) (omega arith))
       (λ _. need-same (cc (links-same, turns-same, signals-same, modes-same, boxes-same, entries-same)) refl (λ _. refl))
 
   module _ (C : Counts s) where
@@ -206,24 +215,78 @@ module _ {s t : List ℕ} (A : Agree s t) where
     unfolding modesStart
     modes-most = omega (arith, signals-most, C .signals)
 
-    -- the memory of every mode, whether it has a record or not
+    mode-place : (m : ℕ) → modeAt s m ≡ modeAt t m
+    mode-place m = cc (modes-start, mode-size)
+
+    mode-most : (m : ℕ) → m < modesOf s → modeAt s m + modeSize s ≤ gridsMost
+    mode-most m lt = omega (arith, modes-most, mode-step s m (modesOf s) lt, all-modes-most s (C .links) (modesOf s) maxModes (C .modes))
+
+    -- the memory, goal number and goals of every mode, whether it has a record or not
+    mode-byte : (i : ℕ) → i ≤ 3 → (m : ℕ) → m < modesOf s → byteAt s (modeAt s m + i) ≡ byteAt t (modeAt t m + i)
+    mode-byte i h m lt = byte-same A (ap (λ (o : ℕ). o + i) (mode-place m)) (omega (arith, mode-most m lt))
+
     pub shown-same : (m : ℕ) → m < modesOf s → shownBefore s m ≡ shownBefore t m
     unfolding shownBefore
-    shown-same m lt =
-        let e : byteAt s (modeAt s m + 2) ≡ byteAt t (modeAt t m + 2) = byte-same A (omega (arith, modes-start)) (omega (arith, modes-most, C .modes)) in
-        rw (remembers-same, e)
+    shown-same m lt = rw (remembers-same, mode-byte 2 (omega arith) m lt)
+
+    pub number-same : (m : ℕ) → m < modesOf s → goalNumberOf s m ≡ goalNumberOf t m
+    unfolding goalNumberOf
+    number-same m lt = rw (turning-same, mode-byte 3 (omega arith) m lt)
+
+    goal-same : (m l : ℕ) → m < modesOf s → l < linksOf s → goalFor s m l ≡ goalFor t m l
+    unfolding goalFor
+    goal-same m l lt ll =
+        let plain : goalOf s l ≡ goalOf t l = link-u16 10 (omega arith) l ll in
+        let own : u16At s (modeAt s m + (4 + 2 * l)) ≡ u16At t (modeAt t m + (4 + 2 * l)) = u16-same A (ap (λ (o : ℕ). o + (4 + 2 * l)) (mode-place m)) (omega (arith, mode-most m lt, C .links)) in
+        rw (turning-same, plain, own)
+
+    greatest : greatestGoal s ≡ greatestGoal t
+    unfolding greatestGoal
+    greatest = greatest-same (modesOf s) _ _ number-same ∙ ap (λ (n : ℕ). greatestTo n (goalNumberOf t)) modes-same
+
+    pub next-same : (n : ℕ) → nextGoal s n ≡ nextGoal t n
+    unfolding nextGoal
+    next-same n = rw greatest
+
+    equal-same : (k m : ℕ) → k < modesOf s → m < modesOf s → sameGoals s k m ≡ sameGoals t k m
+    unfolding sameGoals
+    equal-same k m lk lm =
+        every-same (linksOf s) _ _ (λ l ll. cc (goal-same k l lk ll, goal-same m l lm ll)) ∙ ap (λ (n : ℕ). every n (λ l. eqb (goalFor t k l) (goalFor t m l))) links-same
+
+    agree-same : (m : ℕ) → m < modesOf s → goalsAgree s m ≡ goalsAgree t m
+    unfolding goalsAgree
+    agree-same m lt = every-same m _ _ (λ k below. cc (number-same k (omega arith), number-same m lt, equal-same k m (omega arith) lt))
+
+    safe-same : (m : ℕ) → m < modesOf s → goalsSafe s m ≡ goalsSafe t m
+    unfolding goalsSafe
+    safe-same m lt =
+        every-same (linksOf s) _ _ (λ l ll. let e : safeOf s l ≡ safeOf t l = link-u16 8 (omega arith) l ll in cc (goal-same m l lt ll))
+        ∙ ap (λ (n : ℕ). every n (λ l. leb (goalFor t m l) (safeOf t l))) links-same
+
+    used-same : (n : ℕ) → isUsed s n ≡ isUsed t n
+    unfolding isUsed
+    used-same n = any-same (modesOf s) _ _ (λ m lt. cc (number-same m lt)) ∙ ap (λ (k : ℕ). anyTo k (λ m. eqb (goalNumberOf t m) n)) modes-same
+
+    gap-same : noGap s ≡ noGap t
+    unfolding noGap
+    gap-same = every-same (greatestGoal s) _ _ (λ n _. used-same n) ∙ ap (λ (k : ℕ). every k (isUsed t)) greatest
+
+    goals-same : (m : ℕ) → m < modesOf s → goalsOk s m ≡ goalsOk t m
+    unfolding goalsOk
+    goals-same m lt = cc (number-same m lt, safe-same m lt, agree-same m lt, modes-same, gap-same)
 
     pub mode-same : (m : ℕ) → m < modeRecordsOf s → modeFault s m ≡ modeFault t m
     unfolding modeFault modeOk
     mode-same m lt =
         let inside : m < modesOf s = omega (arith, records-most s) in
-        record-same A _ _ _ _ (omega (arith, modes-start)) (omega arith) (omega (arith, modes-most, C .modes)) (cc (shown-same m inside, signals-same))
+        or-same (marked-opened A _ _ (mode-place m) mode-size (omega (arith, mode-least s)) (omega (arith, mode-most m inside)))
+        (λ _. need-same (cc (shown-same m inside, signals-same, turning-same, goals-same m inside)) (ap (refusal 6) (mode-place m)) (λ _. refl))
 
     -- where the grid starts
     pub grid-start : gridStart s ≡ gridStart t
     unfolding gridStart
-    grid-start = omega (arith, modes-start, records-same)
+    grid-start = mode-place (modeRecordsOf s) ∙ ap (modeAt t) records-same
 
     pub grid-most : gridStart s ≤ gridsMost
     unfolding gridStart
-    grid-most = omega (arith, modes-most, records-most s, C .modes)
+    grid-most = omega (arith, modes-most, all-modes-most s (C .links) (modeRecordsOf s) maxModes (omega (arith, records-most s, C .modes)))

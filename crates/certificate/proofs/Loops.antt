@@ -8,7 +8,7 @@ use native.Mathlib.Numerals.{add-one}
 use native.Mathlib.Omega.{arith}
 use borrow.Author.Tests.{leb-true, leb-false}
 use lib.Dec.{leb}
-use Rattle.certificate.specs.Loops.{pick, sumTo, anyTo, everyOf, everyFrom, every, firstOfThese, findFrom, find, rounds, loopFrom}
+use Rattle.certificate.specs.Loops.{pick, sumTo, greatestTo, anyTo, everyOf, everyFrom, every, firstOfThese, findFrom, find, rounds, loopFrom}
 use Rattle.certificate.proofs.Tests.{and-both, both-and}
 
 -- one round of a loop that carries a state, and its end
@@ -85,6 +85,16 @@ pub each-every : (n : ℕ) (p : ℕ → Bool) → ((k : ℕ) → k < n → p k �
 unfolding everyFrom
 each-every n p h = every-of p (n - 0) 0 (λ k a b. h k (omega arith))
 
+-- two tests that agree below n
+of-same : (p q : ℕ → Bool) (m i : ℕ) → ((k : ℕ) → i ≤ k → k < i + m → p k ≡ q k) → everyOf p m i ≡ everyOf q m i
+unfolding everyOf
+of-same p q zero i h = refl
+of-same p q (suc m) i h = rw (h i (omega arith) (omega arith), of-same p q m (i + 1) (λ k a b. h k (omega arith) (omega arith)))
+
+pub every-same : (n : ℕ) (p q : ℕ → Bool) → ((k : ℕ) → k < n → p k ≡ q k) → every n p ≡ every n q
+unfolding everyFrom
+every-same n p q h = of-same p q (n - 0) 0 (λ k a b. h k (omega arith))
+
 pub every-turn : (n i : ℕ) (p : ℕ → Bool) → i < n → everyFrom n p i ≡ (p i && everyFrom n p (i + 1))
 unfolding everyFrom everyOf
 every-turn n i p h = let e : n - i ≡ suc (n - (i + 1)) = omega arith in rw e
@@ -126,6 +136,12 @@ find-least n p k e = lt-or (leb (find n p) k) refl
     lt-or : (b : Bool) → leb (find n p) k ≡ b → find n p ≤ k
     lt-or true q = leb-true _ _ q
     lt-or false q = absurd (false≢true (sym (found n p .before k (omega arith) (leb-false _ _ q)) ∙ e))
+
+-- the greatest of numbers that agree
+pub greatest-same : (n : ℕ) (f g : ℕ → ℕ) → ((k : ℕ) → k < n → f k ≡ g k) → greatestTo n f ≡ greatestTo n g
+unfolding greatestTo
+greatest-same zero f g h = refl
+greatest-same (suc n) f g h = rw (greatest-same n f g (λ k lt. h k (omega arith)), h n (omega arith))
 
 -- two sums whose terms agree
 pub sum-same : (n : ℕ) (f g : ℕ → ℕ) → ((t : ℕ) → t < n → f t ≡ g t) → sumTo n f ≡ sumTo n g

@@ -7,7 +7,7 @@ use native.Mathlib.Omega.{arith}
 use Rattle.certificate.specs.declared.Report.{Report}
 use Rattle.certificate.specs.Reading.{readingOf}
 use Rattle.certificate.specs.Due.{Kind}
-use Rattle.certificate.specs.Laws.{ReadingNumber, up-to-nine, of-order, of-memory, ReadingNumbers}
+use Rattle.certificate.specs.Laws.{ReadingNumber, up-to-nine, of-order, of-memory, of-goal, ReadingNumbers}
 use Rattle.certificate.proofs.Tests.{passes}
 use Rattle.certificate.proofs.Plain.{reading-is-fine}
 use Rattle.certificate.proofs.FieldTests.{test-number}
@@ -24,6 +24,7 @@ pub reading-apart : (n : ℕ) → ReadingNumber n → min (n - 9) (16 - n) ≡ 0
 reading-apart n (up-to-nine h) = omega arith
 reading-apart n (of-order e) = omega arith
 reading-apart n (of-memory e) = omega arith
+reading-apart n (of-goal e) = omega arith
 
 -- the refusal of a record
 of-fault : (s : List ℕ) (k : Kind) (i : ℕ) (r : Report) → Fault s k i r → OfReading r

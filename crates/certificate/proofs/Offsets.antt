@@ -5,7 +5,7 @@ use native.Mathlib.Nat.{mul-le-mul-left}
 use native.Mathlib.Omega.{arith}
 use Rattle.certificate.specs.Layout.{headerSize, linkSize, turnSize, signalSize, modeSize, gridSize, arrivalSize, entrySize, linksOf, turnsOf, signalsOf, boxesOf, entriesOf, linkAt, turnsStart, turnAt, signalsStart, signalAt, modesStart, modeRecordsOf, modeAt, gridStart, gridAt, intervalsOf, arrivalsStart, arrivalAt, entriesStart, entryAt, endAt}
 use Rattle.certificate.proofs.Ascending.{grows}
-use Rattle.certificate.proofs.KindSizes.{link-step}
+use Rattle.certificate.proofs.KindSizes.{link-step, mode-step}
 
 module _ (s : List ℕ) where
   -- a later grid record starts no earlier
@@ -39,9 +39,9 @@ module _ (s : List ℕ) where
   unfolding modesStart
   signal-end g lt = omega arith
 
-  pub mode-end : (m : ℕ) → m < modeRecordsOf s → modeAt s m + modeSize ≤ gridStart s
+  pub mode-end : (m : ℕ) → m < modeRecordsOf s → modeAt s m + modeSize s ≤ gridStart s
   unfolding gridStart
-  mode-end m lt = omega arith
+  mode-end m lt = omega (arith, mode-step s m (modeRecordsOf s) lt)
 
   pub grid-end : (l : ℕ) → l < linksOf s → gridAt s l + gridSize (intervalsOf s l) ≤ arrivalsStart s
   unfolding arrivalsStart gridAt

@@ -105,7 +105,7 @@ module _ (s : List ℕ) where
   modes-fit : modesStart s ≤ length s → Stretch (length s) (modesFault s) (gridStart s)
   unfolding modesFault modeFault gridStart
   modes-fit h =
-      records-fit _ (modeRecordsOf s) (modeFault s) (modeAt s) (omega arith) (λ m z. omega (arith, mode-says s m .0 z .0)) (λ m. record-fits (modeAt s m) _ _ _ _)
+      records-fit _ (modeRecordsOf s) (modeFault s) (modeAt s) (omega arith) (λ m z. rw mul-suc (omega (arith, mode-says s m .0 z .0))) (λ m. record-fits (modeAt s m) _ _ _ _)
 
   grids-fit : gridStart s ≤ length s → Stretch (length s) (gridsFault s) (arrivalsStart s)
   unfolding gridsFault arrivalsStart gridAt
@@ -120,7 +120,7 @@ module _ (s : List ℕ) where
   unfolding entriesFault entryFault endAt
   entries-fit h =
       records-fit _ (entriesOf s) (entryFault s) (entryAt s) (omega arith) (λ e z. omega (arith, entry-says s e .0 z .0))
-      (λ e h. or-fits _ (opened-fits _ _ _ h) (λ _. need-fits _ _ (refusal-fits _ _ _ h) (need-fits _ _ (refusal-fits _ _ _ h) (test-fits _ _ _ _ h))))
+      (λ e h. or-fits _ (opened-fits _ _ _ h) (λ _. need-fits _ _ (refusal-fits _ _ _ h) (need-fits _ _ (refusal-fits _ _ _ h) (need-fits _ _ (refusal-fits _ _ _ h) (test-fits _ _ _ _ h)))))
 
   end-fits : endAt s ≤ length s → Fits (length s) (endFault s)
   unfolding endFault

@@ -3,18 +3,20 @@ use Prim.Native.Nat.{ℕ, zero, suc, _+_, _-_, _≤_, _<_}
 use mathlib.Core.Bool.{Bool, true, false, not, _||_, false≢true}
 use mathlib.Core.List.{List}
 use mathlib.Core.Path.{_≡_, refl}
-use mathlib.Core.Logic.{_↔_, _⊎_, inl, inr, ⊎-elim}
+use mathlib.Core.Logic.{_↔_, _⊎_, inl, inr, ⊎-elim, Iff·trans}
 use native.Mathlib.Omega.{arith}
 use borrow.Author.Tests.{le-leb, eqb-true, eq-eqb}
 use lib.ListN.{length}
 use lib.Dec.{leb, eqb}
 use Rattle.certificate.specs.Checks.{fine}
-use Rattle.certificate.specs.Layout.{headerSize, linkSize, turnSize, signalSize, modeSize, gridSize, arrivalSize, entrySize, endSize, linksOf, remembers, linkAt, turnAt, signalAt, modeAt, shownBefore, gridAt, intervalsOf, cutOf, capOf, arrivalAt, entryAt, signalOf, nextModeOf, endAt}
+use Rattle.certificate.specs.Layout.{headerSize, linkSize, turnSize, signalSize, modeSize, gridSize, arrivalSize, entrySize, endSize, linksOf, modesOf, remembers, linkAt, turnAt, signalAt, modeAt, shownBefore, gridAt, intervalsOf, cutOf, capOf, arrivalAt, entryAt, signalOf, nextModeOf, endAt}
 use Rattle.certificate.specs.Records.{headerOk, headerMarked, headerFault, linkOk, linkFault, turnAscends, shareTotal, turnOk, turnFault, signalOk, signalFault, modeOk, modeFault, cutBefore, cutOk, cutFault, countOk, gridFault, rangeOk, rangeFault, arrivalFault, namesExist, entryAscends, passesOn, entryFault, endFault}
-use Rattle.certificate.specs.Facts.{Mark, HeaderMark, HeaderFacts, LinkFacts, TurnFacts, SignalFacts, ModeFacts, GridFacts, BoxFacts, EntryFacts, PassesOn}
+use Rattle.certificate.specs.Facts.{Mark, HeaderMark, HeaderFacts, LinkFacts, TurnFacts, SignalFacts, ModeFacts, NumbersUsed, GridFacts, BoxFacts, EntryFacts, PassesOn, TurnsOn}
+use Rattle.certificate.specs.Due.{GoalsAgree}
 use Rattle.certificate.proofs.Says.{says, marked-says}
 use Rattle.certificate.proofs.Ascending.{all-ascend}
-use Rattle.certificate.proofs.KindSizes.{link-least}
+use Rattle.certificate.proofs.KindSizes.{link-least, mode-least}
+use Rattle.certificate.proofs.Goals.{goals-say, turns-say}
 
 -- the record of that size at o ends within s
 abbrev pub Within : List ℕ → ℕ → ℕ → Type 0
@@ -25,14 +27,19 @@ either-says : (a b : Bool) → ((a || b) ≡ true) ↔ ((a ≡ true) ⊎ (b ≡ 
 either-says true b = ((λ e. inl refl), (λ h. refl))
 either-says false b = (inr, ⊎-elim (λ e. absurd (false≢true e)) (λ e. e))
 
+both-say : {a b : Bool} {A B : Type 0} → (a ≡ true) ↔ A → (b ≡ true) ↔ B → ((a || b) ≡ true) ↔ (A ⊎ B)
+both-say {a} {b} p q = (
+  (λ e. ⊎-elim (λ h. inl (p .0 h)) (λ h. inr (q .0 h)) (either-says a b .0 e)),
+  (λ m. either-says a b .1 (⊎-elim (λ h. inl (p .1 h)) (λ h. inr (q .1 h)) m)),
+)
+
+regrouped : {A B C : Type 0} → ((A ⊎ B) ⊎ C) ↔ (A ⊎ B ⊎ C)
+regrouped = (⊎-elim (⊎-elim inl (λ b. inr (inl b))) (λ c. inr (inr c)), ⊎-elim (λ a. inl (inl a)) (⊎-elim (λ b. inl (inr b)) inr))
+
 pub header-marked-says : (s : List ℕ) → (headerMarked s ≡ true) ↔ HeaderMark s
 unfolding headerMarked
 header-marked-says s =
-    let old = marked-says s 0 72 68 in
-    let new = marked-says s 0 72 50 in (
-      (λ e. ⊎-elim (λ p. inl (old .0 p)) (λ p. inr (new .0 p)) (either-says _ _ .0 e)),
-      (λ m. either-says _ _ .1 (⊎-elim (λ p. inl (old .1 p)) (λ p. inr (new .1 p)) m)),
-    )
+    Iff·trans (both-say (both-say (marked-says s 0 72 68) (marked-says s 0 72 50)) (marked-says s 0 72 51)) regrouped
 
 pub header-says : (s : List ℕ) → (headerFault s .number ≡ 0) ↔ (Within s 0 headerSize × HeaderFacts s)
 unfolding headerFault headerOk
@@ -68,9 +75,15 @@ pub signal-says : (s : List ℕ) (g : ℕ) → (signalFault s g .number ≡ 0) �
 unfolding signalFault signalOk
 signal-says s g = simp says (omega arith)
 
-pub mode-says : (s : List ℕ) (m : ℕ) → (modeFault s m .number ≡ 0) ↔ (Within s (modeAt s m) modeSize × ModeFacts s m)
+pub mode-says : (s : List ℕ) (m : ℕ) → (modeFault s m .number ≡ 0) ↔ (Within s (modeAt s m) (modeSize s) × ModeFacts s m × GoalsAgree s m × (m + 1 ≡ modesOf s → NumbersUsed s))
 unfolding modeFault modeOk
-mode-says s m = simp says (omega arith)
+mode-says s m =
+    let z : leb 2 (modeSize s) ≡ true = le-leb 2 (modeSize s) (omega (arith, mode-least s)) in
+    simp (says, z, goals-say) (
+      λ ((whole, mark), ((signal, (number, goals, agree, used)), _)).
+          (whole, record { mark = mark; signal = signal; number-most = number; goals-most = goals }, agree, used),
+      λ (whole, facts, agree, used). ((whole, facts .mark), ((facts .signal, (facts .number-most, facts .goals-most, agree, used)), refl)),
+    )
 
 pub turn-says : (s : List ℕ) (t : ℕ) → (turnFault s t .number ≡ 0) ↔ (Within s (turnAt s t) turnSize × TurnFacts s t × (turnAscends s t ≡ true) × (shareTotal s t ≤ 100))
 unfolding turnFault turnOk
@@ -84,9 +97,9 @@ passes-says s e = go (remembers s)
     go true = ((λ p k. eqb-true _ _ p), (λ h. eq-eqb _ _ (h refl)))
     go false = ((λ p k. absurd (false≢true k)), (λ h. refl))
 
-pub entry-says : (s : List ℕ) (e : ℕ) → (entryFault s e .number ≡ 0) ↔ (Within s (entryAt s e) entrySize × EntryFacts s e × (entryAscends s e ≡ true) × PassesOn s e)
+pub entry-says : (s : List ℕ) (e : ℕ) → (entryFault s e .number ≡ 0) ↔ (Within s (entryAt s e) entrySize × EntryFacts s e × (entryAscends s e ≡ true) × PassesOn s e × TurnsOn s e)
 unfolding entryFault namesExist
-entry-says s e = simp (says, passes-says) (λ h. (omega arith, omega arith, search h, search h), λ h. search (h, arith))
+entry-says s e = simp (says, passes-says, turns-say) (λ h. (omega arith, omega arith, search h, search h, search h), λ h. search (h, arith))
 
 pub end-says : (s : List ℕ) → (endFault s .number ≡ 0) ↔ ((length s ≡ endAt s + endSize) × Mark s (endAt s) 90 90)
 unfolding endFault
@@ -123,6 +136,3 @@ grid-says s l =
     cuts : GridFacts s l → (k : ℕ) → k < intervalsOf s l - 1 → ((cutBefore s l k < cutOf s l k) × (cutOf s l k < capOf s l)) × (fine .number ≡ 0)
     cuts h zero lt = ((h .cut-least 0 (omega arith), h .cut-most 0 (omega arith)), refl)
     cuts h (suc k) lt = ((h .ascend k (suc k) (omega arith) (omega arith), h .cut-most (suc k) (omega arith)), refl)
-
--- all of them, with the tests that they are made of
-pub ruleset records-say = (says, header-says, link-says, turn-says, signal-says, mode-says, grid-says, box-says, entry-says, end-says)

@@ -9,9 +9,9 @@ use Rattle.certificate.specs.declared.Report.{Report}
 use Rattle.certificate.specs.Checks.{result, refusal}
 use Rattle.certificate.specs.Layout.{endSize, endAt}
 use Rattle.certificate.specs.Reading.{readingOf}
-use Rattle.certificate.specs.Due.{Kind, HD, LK, TN, SG, MD, GR, AR, EN, ZZ, fieldNumber, recordAt, Line, Due, TooShort, WrongMark, BrokenLine, MissingName, WrongOrder, OtherSignal}
+use Rattle.certificate.specs.Due.{Kind, HD, LK, TN, SG, MD, GR, AR, EN, ZZ, fieldNumber, recordAt, Line, Due, TooShort, WrongMark, BrokenLine, MissingName, WrongOrder, OtherSignal, OtherGoal}
 use Rattle.certificate.specs.Laws.{ReadingNumber, up-to-nine, DueAt, GoesOnAt, BrokenAt, RefusedField, RefusedSignal, Refusals, ReadingRefuses}
-use Rattle.certificate.proofs.FieldTests.{Test, fields, order, memory, kindOf, testNumber, Asks, Broken, test-least, test-number, same-test, number-six, broken-line, missing-name, wrong-order, other-signal}
+use Rattle.certificate.proofs.FieldTests.{Test, fields, order, memory, goal, kindOf, testNumber, Asks, Broken, test-least, test-number, same-test, number-six, broken-line, missing-name, wrong-order, other-signal, other-goal}
 use Rattle.certificate.proofs.Faults.{linePlace, Fault, too-short, wrong-mark, breaks}
 use Rattle.certificate.proofs.FirstFault.{FirstFault, reading-law}
 
@@ -44,6 +44,7 @@ test-place s (fields EN) i least = refl
 test-place s (fields ZZ) i least = absurd (omega arith)
 test-place s order i least = refl
 test-place s memory i least = refl
+test-place s goal i least = refl
 
 -- what the record that is due says of a result
 module _ (s : List ℕ) (a b n : ℕ) where
@@ -158,6 +159,7 @@ module _ (answer : List ℕ → Report) (alike : (s : List ℕ) (r : Report) →
         name = by-test (fields EN) (omega arith) (omega arith) MissingName missing-name;
         order = by-test order (omega arith) (omega arith) WrongOrder wrong-order;
         memory = by-test memory (omega arith) (omega arith) OtherSignal other-signal;
+        goal = by-test goal (omega arith) (omega arith) OtherGoal other-goal;
       }
 
 pub reading-refuses : ReadingRefuses

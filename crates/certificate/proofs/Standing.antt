@@ -1,6 +1,6 @@
 -- A readable certificate is the fields of the layout, one after another. Assumes nothing.
 use Prim.Native.Nat.{ℕ, zero, suc, _+_, _*_, _-_, _<_}
-use mathlib.Core.Bool.{Bool, true, false}
+use mathlib.Core.Bool.{Bool, true, false, cond}
 use mathlib.Core.List.{List, [], _∷_, _++_}
 use mathlib.Core.Path.{_≡_, refl, ap, _∙_}
 use mathlib.Core.Logic.{inl, inr}
@@ -8,10 +8,11 @@ use native.Mathlib.Nat.{mul-suc}
 use native.Mathlib.Omega.{arith}
 use lib.ListN.{length}
 use Rattle.certificate.specs.Octets.{byteAt, u16At}
-use Rattle.certificate.specs.Layout.{headerSize, linksOf, turnsOf, signalsOf, boxesOf, entriesOf, remembers, linkSize, linkAt, startFlowOf, turnsStart, turnAt, signalsStart, signalAt, modeRecordsOf, modesStart, modeAt, shownBefore, gridStart, gridAt, intervalsOf, cutOf, arrivalsStart, arrivalAt, lowOf, highOf, entriesStart, entryAt, endAt}
+use Rattle.certificate.specs.Loops.{pick}
+use Rattle.certificate.specs.Layout.{headerSize, plainModeSize, goalModeSize, linksOf, turnsOf, signalsOf, boxesOf, entriesOf, remembers, takesTurns, linkSize, linkAt, startFlowOf, turnsStart, turnAt, signalsStart, signalAt, modeRecordsOf, modesStart, modeSize, modeAt, shownBefore, goalNumberOf, goalFor, gridStart, gridAt, intervalsOf, cutOf, arrivalsStart, arrivalAt, lowOf, highOf, entriesStart, entryAt, endAt}
 use Rattle.certificate.specs.Facts.{HeaderMark, Readable}
 use Rattle.certificate.specs.Due.{LK, TN, SG, MD, GR, AR, EN}
-use Rattle.certificate.specs.Fields.{Field, byte, u16, Stand, each, startField, fieldsOf, recordsOf}
+use Rattle.certificate.specs.Fields.{Field, byte, u16, Stand, each, startField, goalFields, fieldsOf, recordsOf}
 use Rattle.certificate.specs.Laws.{FieldsStand}
 use Rattle.certificate.proofs.KindOrder.{kindAt}
 
@@ -54,6 +55,35 @@ module _ (s : List ℕ) where
       go true e = rw e
       go false e = absurd (let none : modeRecordsOf s ≡ 0 = rw e in omega arith)
 
+  -- an MD ends with its goals or before them
+  number-at : (m : ℕ) → takesTurns s ≡ true → byteAt s (modeAt s m + 3) ≡ goalNumberOf s m
+  unfolding goalNumberOf
+  number-at m e = rw e
+
+  goal-at : (m l : ℕ) → takesTurns s ≡ true → u16At s (modeAt s m + (4 + 2 * l)) ≡ goalFor s m l
+  unfolding goalFor
+  goal-at m l e = rw e
+
+  size-by : (b : Bool) → takesTurns s ≡ b → modeSize s ≡ pick b (goalModeSize (linksOf s)) plainModeSize
+  unfolding modeSize
+  size-by b e = rw e
+
+  goals-stand : (m : ℕ) → Stand s (modeAt s m + 3) (goalFields s m) (modeAt s (suc m))
+  goals-stand m = go (takesTurns s) refl
+    where
+      goal : ℕ → List Field
+      goal l = u16 (goalFor s m l) ∷ []
+
+      at : ℕ → ℕ
+      at l = modeAt s m + 4 + 2 * l
+
+      go : (b : Bool) → takesTurns s ≡ b → Stand s (modeAt s m + 3) (cond b (byte (goalNumberOf s m) ∷ each (linksOf s) goal) []) (modeAt s (suc m))
+      go true e = (
+        number-at m e,
+        moved (each (linksOf s) goal) (omega arith) (rw mul-suc (omega (arith, size-by true e))) (in-turn goal at (linksOf s) (λ l h. (u16-at (omega arith) ∙ goal-at m l e, omega arith))),
+      )
+      go false e = rw mul-suc (omega (arith, size-by false e))
+
   module _ (R : Readable s) where
     -- each record, from its start to where the next one starts
     link-stands : (l : ℕ) → l < linksOf s → Stand s (linkAt s l) (fieldsOf s LK l) (linkAt s (suc l))
@@ -70,7 +100,7 @@ module _ (s : List ℕ) where
     signal-stands g lt = let m = R .signal g lt .mark in (m .first, (m .second, (byte-at (omega arith), omega arith)))
 
     mode-stands : (m : ℕ) → m < modeRecordsOf s → Stand s (modeAt s m) (fieldsOf s MD m) (modeAt s (suc m))
-    mode-stands m lt = let k = R .mode m lt .mark in (k .first, (k .second, (byte-at (omega arith) ∙ shown-stands m lt, omega arith)))
+    mode-stands m lt = let k = R .mode m lt .mark in (k .first, (k .second, (byte-at (omega arith) ∙ shown-stands m lt, moved (goalFields s m) (omega arith) refl (goals-stand m))))
 
     grid-stands : (l : ℕ) → l < linksOf s → Stand s (gridAt s l) (fieldsOf s GR l) (gridAt s (suc l))
     unfolding gridAt
@@ -113,10 +143,11 @@ startOf s (suc (suc (suc (suc (suc (suc (suc zero))))))) = entriesStart s
 startOf s (suc (suc (suc (suc (suc (suc (suc (suc zero)))))))) = endAt s
 startOf s (suc (suc (suc (suc (suc (suc (suc (suc (suc n))))))))) = length s
 
--- both marks of the first record begin with H
+-- every mark of the first record begins with H
 header-first : (s : List ℕ) → HeaderMark s → byteAt s 0 ≡ 72
 header-first s (inl m) = m .first
-header-first s (inr m) = m .first
+header-first s (inr (inl m)) = m .first
+header-first s (inr (inr m)) = m .first
 
 kind-stands : (s : List ℕ) → Readable s → (n : ℕ) → n < 9 → Stand s (startOf s n) (recordsOf s (kindAt n)) (startOf s (suc n))
 unfolding startOf kindAt turnsStart signalsStart modesStart gridStart gridAt arrivalsStart entriesStart endAt

@@ -5,11 +5,11 @@ use mathlib.Core.List.{List}
 use mathlib.Core.Logic.{_⊎_}
 use mathlib.Core.Path.{_≡_}
 use lib.ListN.{length}
-use Rattle.certificate.specs.Layout.{maxShare, maxIntervals, maxCells, headerSize, linkSize, turnSize, signalSize, modeSize, gridSize, arrivalSize, entrySize, endSize, linksOf, turnsOf, signalsOf, modesOf, boxesOf, entriesOf, remembers, linkAt, turnAt, fromOf, toOf, signalAt, modeRecordsOf, modeAt, shownBefore, gridAt, intervalsOf, productOf, cellsOf, arrivalAt, entryAt, cellOf, modeOf, signalOf, nextModeOf, endAt}
+use Rattle.certificate.specs.Layout.{maxShare, maxIntervals, maxCells, headerSize, linkSize, turnSize, signalSize, modeSize, gridSize, arrivalSize, entrySize, endSize, linksOf, turnsOf, signalsOf, modesOf, boxesOf, entriesOf, remembers, linkAt, turnAt, fromOf, toOf, signalAt, modeRecordsOf, modeAt, shownBefore, goalNumberOf, nextGoal, gridAt, intervalsOf, productOf, cellsOf, arrivalAt, entryAt, cellOf, modeOf, signalOf, nextModeOf, rankOf, endAt}
 use Rattle.certificate.specs.Records.{shareTotal}
-use Rattle.certificate.specs.Facts.{Mark, HeaderMark, HeaderFacts, LinkFacts, PairBelow, TurnFacts, SignalFacts, ModeFacts, GridFacts, BoxFacts, EntryFacts, PassesOn}
+use Rattle.certificate.specs.Facts.{Mark, HeaderMark, HeaderFacts, LinkFacts, PairBelow, TurnFacts, SignalFacts, ModeFacts, SameGoals, NumbersUsed, GridFacts, BoxFacts, EntryFacts, PassesOn, TurnsOn}
 
--- The kinds of records. HD is the first one, whether its mark is HD or H2.
+-- The kinds of records. HD is the first one, whether its mark is HD, H2 or H3.
 pub data Kind : Type 0 where
   HD LK TN SG MD GR AR EN ZZ : Kind
 
@@ -25,7 +25,8 @@ orderOf AR = 6
 orderOf EN = 7
 orderOf ZZ = 8
 
--- the refusal of a field that breaks its line (EN: a name; its order has 22, what it passes on 23. ZZ has no field: 2 is a byte after it)
+-- the refusal of a field that breaks its line (EN: a name; its order has 22, what it passes on 23, its goal number 24. ZZ has no
+-- field: 2 is a byte after it)
 abbrev pub fieldNumber : Kind → ℕ
 fieldNumber HD = 3
 fieldNumber LK = 4
@@ -89,7 +90,7 @@ Whole s HD i = headerSize ≤ length s
 Whole s LK i = linkAt s i + linkSize s ≤ length s
 Whole s TN i = turnAt s i + turnSize ≤ length s
 Whole s SG i = signalAt s i + signalSize ≤ length s
-Whole s MD i = modeAt s i + modeSize ≤ length s
+Whole s MD i = modeAt s i + modeSize s ≤ length s
 Whole s GR i = (gridAt s i + 3 ≤ length s) × (CountFacts s i → gridAt s i + gridSize (intervalsOf s i) ≤ length s)
 Whole s AR i = arrivalAt s i + arrivalSize (linksOf s) ≤ length s
 Whole s EN i = entryAt s i + entrySize ≤ length s
@@ -99,16 +100,20 @@ Whole s ZZ i = endAt s + endSize ≤ length s
 abbrev pub Above : (ℕ → ℕ) → (ℕ → ℕ) → ℕ → Type 0
 Above f g i = (h : ℕ) → h + 1 ≡ i → PairBelow (f h) (g h) (f i) (g i)
 
--- it is as its line of document 01 says, the mark included
+-- each mode before mode m that has its goal number has its goals
+abbrev pub GoalsAgree : List ℕ → ℕ → Type 0
+GoalsAgree s m = (k : ℕ) → k < m → goalNumberOf s k ≡ goalNumberOf s m → SameGoals s k m
+
+-- it is as its line of document 01 says, the mark included. The last MD answers for the goal numbers used.
 abbrev pub Line : List ℕ → Kind → ℕ → Type 0
 Line s HD i = HeaderFacts s
 Line s LK i = LinkFacts s i
 Line s TN i = TurnFacts s i × Above (fromOf s) (toOf s) i × (shareTotal s i ≤ maxShare)
 Line s SG i = SignalFacts s i
-Line s MD i = ModeFacts s i
+Line s MD i = ModeFacts s i × GoalsAgree s i × (i + 1 ≡ modesOf s → NumbersUsed s)
 Line s GR i = GridFacts s i
 Line s AR i = BoxFacts s i
-Line s EN i = EntryFacts s i × Above (cellOf s) (modeOf s) i × PassesOn s i
+Line s EN i = EntryFacts s i × Above (cellOf s) (modeOf s) i × PassesOn s i × TurnsOn s i
 Line s ZZ i = Mark s (endAt s) 90 90 × (length s ≡ endAt s + endSize)
 
 -- record i of kind k is due: it is one of those that HD counts, and every record before it is whole and as its line says
@@ -127,7 +132,7 @@ WrongMark s k i = Present s k i × (Marked s k i → ⊥)
 abbrev pub BrokenLine : List ℕ → Kind → ℕ → Type 0
 BrokenLine s k i = Marked s k i × Whole s k i × (Line s k i → ⊥)
 
--- An entry's line has three. First its names: a cell, mode, signal or next mode that it names is missing.
+-- An entry's line has four. First its names: a cell, mode, signal or next mode that it names is missing.
 pub data Missing (s : List ℕ) (e : ℕ) : Type 0 where
   cell : cellsOf s ≤ cellOf s e → Missing s e
   mode : modesOf s ≤ modeOf s e → Missing s e
@@ -142,7 +147,15 @@ abbrev pub WrongOrder : List ℕ → ℕ → Type 0
 WrongOrder s e =
     Whole s EN e × EntryFacts s e × ((h : ℕ) × (h + 1 ≡ e) × (PairBelow (cellOf s h) (modeOf s h) (cellOf s e) (modeOf s e) → ⊥))
 
--- Then what it passes on: its names exist, its pair is above, and in H2 its next mode remembers a signal other than its own.
+-- Then what it passes on: its names exist, its pair is above, and in H2 and H3 its next mode remembers a signal other than its own.
 abbrev pub OtherSignal : List ℕ → ℕ → Type 0
 OtherSignal s e =
     Whole s EN e × EntryFacts s e × Above (cellOf s) (modeOf s) e × (remembers s ≡ true) × (shownBefore s (nextModeOf s e) ≡ signalOf s e → ⊥)
+
+-- Then its goal number, with all of that as it must be: a rank above 0 changes it, or rank 0 does not pass to the next one.
+pub data OtherNumber (s : List ℕ) (e : ℕ) : Type 0 where
+  changes : 0 < rankOf s e → (goalNumberOf s (nextModeOf s e) ≡ goalNumberOf s (modeOf s e) → ⊥) → OtherNumber s e
+  not-next : rankOf s e ≡ 0 → (goalNumberOf s (nextModeOf s e) ≡ nextGoal s (goalNumberOf s (modeOf s e)) → ⊥) → OtherNumber s e
+
+abbrev pub OtherGoal : List ℕ → ℕ → Type 0
+OtherGoal s e = Whole s EN e × EntryFacts s e × Above (cellOf s) (modeOf s) e × PassesOn s e × OtherNumber s e

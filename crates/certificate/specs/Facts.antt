@@ -8,16 +8,16 @@ use lib.ListN.{length}
 use lib.Dec.{eqb}
 use Rattle.certificate.specs.Octets.{byteAt}
 use Rattle.certificate.specs.Loops.{pick, sumTo}
-use Rattle.certificate.specs.Layout.{maxLinks, maxTurns, maxSignals, maxModes, maxBoxes, maxEntries, maxCap, maxShare, maxPull, maxArrival, maxIntervals, maxCells, maxLength, endSize, linksOf, turnsOf, signalsOf, modesOf, boxesOf, entriesOf, remembers, linkAt, tailOf, headOf, capOf, flowOf, safeOf, goalOf, startFlowOf, turnAt, fromOf, toOf, shareOf, pullOf, signalAt, greenByteOf, modeRecordsOf, modeAt, shownBefore, gridAt, intervalsOf, cutOf, productOf, cellsOf, arrivalAt, lowOf, highOf, entryAt, cellOf, modeOf, signalOf, nextModeOf, endAt}
+use Rattle.certificate.specs.Layout.{maxLinks, maxTurns, maxSignals, maxModes, maxBoxes, maxEntries, maxCap, maxShare, maxPull, maxArrival, maxIntervals, maxCells, maxGoalNumber, maxLength, endSize, linksOf, turnsOf, signalsOf, modesOf, boxesOf, entriesOf, remembers, takesTurns, linkAt, tailOf, headOf, capOf, flowOf, safeOf, goalOf, startFlowOf, turnAt, fromOf, toOf, shareOf, pullOf, signalAt, greenByteOf, modeRecordsOf, modeAt, shownBefore, goalNumberOf, goalFor, greatestGoal, nextGoal, gridAt, intervalsOf, cutOf, productOf, cellsOf, arrivalAt, lowOf, highOf, entryAt, cellOf, modeOf, signalOf, nextModeOf, rankOf, endAt}
 
 -- the mark at offset o is m and k
 pub record Mark (s : List ℕ) (o m k : ℕ) : Type 0 where
   pub first : byteAt s o ≡ m
   pub second : byteAt s (o + 1) ≡ k
 
--- HD or H2
+-- HD, H2 or H3
 abbrev pub HeaderMark : List ℕ → Type 0
-HeaderMark s = Mark s 0 72 68 ⊎ Mark s 0 72 50
+HeaderMark s = Mark s 0 72 68 ⊎ Mark s 0 72 50 ⊎ Mark s 0 72 51
 
 pub record HeaderFacts (s : List ℕ) : Type 0 where
   pub mark : HeaderMark s
@@ -67,6 +67,20 @@ pub record SignalFacts (s : List ℕ) (g : ℕ) : Type 0 where
 pub record ModeFacts (s : List ℕ) (m : ℕ) : Type 0 where
   pub mark : Mark s (modeAt s m) 77 68
   pub signal : shownBefore s m < signalsOf s
+  pub number-most : goalNumberOf s m ≤ maxGoalNumber
+  pub goals-most : takesTurns s ≡ true → (l : ℕ) → l < linksOf s → goalFor s m l ≤ safeOf s l
+
+-- modes k and m have equal goals
+abbrev pub SameGoals : List ℕ → ℕ → ℕ → Type 0
+SameGoals s k m = (l : ℕ) → l < linksOf s → goalFor s k l ≡ goalFor s m l
+
+-- some mode has goal number n
+abbrev pub Used : List ℕ → ℕ → Type 0
+Used s n = (m : ℕ) × (m < modesOf s) × (goalNumberOf s m ≡ n)
+
+-- the goal numbers used are 0 up to the greatest
+abbrev pub NumbersUsed : List ℕ → Type 0
+NumbersUsed s = (n : ℕ) → n ≤ greatestGoal s → Used s n
 
 pub record GridFacts (s : List ℕ) (l : ℕ) : Type 0 where
   pub mark : Mark s (gridAt s l) 71 82
@@ -89,9 +103,14 @@ pub record EntryFacts (s : List ℕ) (e : ℕ) : Type 0 where
   pub signal : signalOf s e < signalsOf s
   pub next-mode : nextModeOf s e < modesOf s
 
--- in H2 the next mode of entry e remembers its signal
+-- in H2 and H3 the next mode of entry e remembers its signal
 abbrev pub PassesOn : List ℕ → ℕ → Type 0
 PassesOn s e = remembers s ≡ true → shownBefore s (nextModeOf s e) ≡ signalOf s e
+
+-- a rank above 0 keeps the goal number, and rank 0 passes to the next one, 0 after the greatest
+pub record TurnsOn (s : List ℕ) (e : ℕ) : Type 0 where
+  pub stays : 0 < rankOf s e → goalNumberOf s (nextModeOf s e) ≡ goalNumberOf s (modeOf s e)
+  pub passes : rankOf s e ≡ 0 → goalNumberOf s (nextModeOf s e) ≡ nextGoal s (goalNumberOf s (modeOf s e))
 
 -- a readable certificate, record by record
 pub record Readable (s : List ℕ) : Type 0 where
@@ -104,12 +123,16 @@ pub record Readable (s : List ℕ) : Type 0 where
   pub shares : (l : ℕ) → sumTo (turnsOf s) (λ t. pick (eqb (fromOf s t) l) (shareOf s t) 0) ≤ maxShare
   pub signal : (g : ℕ) → g < signalsOf s → SignalFacts s g
   pub mode : (m : ℕ) → m < modeRecordsOf s → ModeFacts s m
+  -- modes with equal goal numbers have equal goals
+  pub goals-agree : (k m : ℕ) → k < modesOf s → m < modesOf s → goalNumberOf s k ≡ goalNumberOf s m → SameGoals s k m
+  pub numbers-used : NumbersUsed s
   pub grid : (l : ℕ) → l < linksOf s → GridFacts s l
   pub box : (b : ℕ) → b < boxesOf s → BoxFacts s b
   pub entry : (e : ℕ) → e < entriesOf s → EntryFacts s e
   -- pairs (cell, mode) strictly ascend
   pub entries-ascend : (e f : ℕ) → e < f → f < entriesOf s → PairBelow (cellOf s e) (modeOf s e) (cellOf s f) (modeOf s f)
   pub passes-on : (e : ℕ) → e < entriesOf s → PassesOn s e
+  pub turns-on : (e : ℕ) → e < entriesOf s → TurnsOn s e
   -- ZZ, and nothing follows
   pub end-mark : Mark s (endAt s) 90 90
   pub whole : length s ≡ endAt s + endSize

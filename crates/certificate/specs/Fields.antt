@@ -4,7 +4,7 @@ use mathlib.Core.Bool.{cond}
 use mathlib.Core.List.{List, [], _∷_, _++_}
 use mathlib.Core.Path.{_≡_}
 use Rattle.certificate.specs.Octets.{byteAt, u16At}
-use Rattle.certificate.specs.Layout.{kindByteOf, remembers, linksOf, turnsOf, signalsOf, modesOf, boxesOf, entriesOf, tailOf, headOf, capOf, flowOf, safeOf, goalOf, startFlowOf, fromOf, toOf, shareOf, pullOf, greenByteOf, shownBefore, intervalsOf, cutOf, lowOf, highOf, cellOf, modeOf, signalOf, nextModeOf, rankOf}
+use Rattle.certificate.specs.Layout.{kindByteOf, remembers, takesTurns, linksOf, turnsOf, signalsOf, modesOf, boxesOf, entriesOf, tailOf, headOf, capOf, flowOf, safeOf, goalOf, startFlowOf, fromOf, toOf, shareOf, pullOf, greenByteOf, shownBefore, goalNumberOf, goalFor, intervalsOf, cutOf, lowOf, highOf, cellOf, modeOf, signalOf, nextModeOf, rankOf}
 use Rattle.certificate.specs.Due.{Kind, HD, LK, TN, SG, MD, GR, AR, EN, ZZ, manyOf}
 
 -- a field of one byte or of two (u16), with its value
@@ -22,9 +22,13 @@ abbrev pub each : ℕ → (ℕ → List Field) → List Field
 each zero f = []
 each (suc n) f = each n f ++ f n
 
--- in H2 an LK ends with the start flow
+-- in H2 and H3 an LK ends with the start flow
 abbrev pub startField : List ℕ → ℕ → List Field
 startField s l = cond (remembers s) (u16 (startFlowOf s l) ∷ []) []
+
+-- in H3 an MD ends with the goal number and the goals
+abbrev pub goalFields : List ℕ → ℕ → List Field
+goalFields s m = cond (takesTurns s) (byte (goalNumberOf s m) ∷ each (linksOf s) (λ l. u16 (goalFor s m l) ∷ [])) []
 
 -- the fields of record i of a kind, the mark first
 abbrev pub fieldsOf : List ℕ → Kind → ℕ → List Field
@@ -34,7 +38,7 @@ fieldsOf s LK i =
     byte 76 ∷ byte 75 ∷ byte (tailOf s i) ∷ byte (headOf s i) ∷ u16 (capOf s i) ∷ u16 (flowOf s i) ∷ u16 (safeOf s i) ∷ u16 (goalOf s i) ∷ startField s i
 fieldsOf s TN i = byte 84 ∷ byte 78 ∷ byte (fromOf s i) ∷ byte (toOf s i) ∷ byte (shareOf s i) ∷ u16 (pullOf s i) ∷ []
 fieldsOf s SG i = byte 83 ∷ byte 71 ∷ byte (greenByteOf s i) ∷ []
-fieldsOf s MD i = byte 77 ∷ byte 68 ∷ byte (shownBefore s i) ∷ []
+fieldsOf s MD i = byte 77 ∷ byte 68 ∷ byte (shownBefore s i) ∷ goalFields s i
 fieldsOf s GR i = byte 71 ∷ byte 82 ∷ byte (intervalsOf s i) ∷ each (intervalsOf s i - 1) (λ c. u16 (cutOf s i c) ∷ [])
 fieldsOf s AR i = byte 65 ∷ byte 82 ∷ each (linksOf s) (λ l. u16 (lowOf s i l) ∷ u16 (highOf s i l) ∷ [])
 fieldsOf s EN i =

@@ -6,13 +6,13 @@ use mathlib.Core.Path.{_≡_}
 use mathlib.Core.Logic.{_↔_, _⊎_}
 use lib.ListN.{length, take}
 use Rattle.certificate.specs.declared.Report.{Report}
-use Rattle.certificate.specs.Layout.{maxLength, headerSize, plainLinkSize, endSize, signalsOf, remembers, linkAt, flowOf, startFlowOf, signalAt, gridStart, cellsOf, maxCells, entryAt, endAt}
-use Rattle.certificate.specs.Records.{passesOn}
+use Rattle.certificate.specs.Layout.{maxLength, headerSize, plainLinkSize, plainModeSize, endSize, signalsOf, remembers, takesTurns, linkAt, flowOf, goalOf, startFlowOf, signalAt, modeSize, goalNumberOf, goalFor, gridStart, cellsOf, maxCells, entryAt, endAt}
+use Rattle.certificate.specs.Records.{passesOn, turnsOn}
 use Rattle.certificate.specs.Reading.{readingOf}
 use Rattle.certificate.specs.Checks.{result, fine}
 use Rattle.certificate.specs.Facts.{Mark, Readable}
 use Rattle.certificate.specs.Fields.{Stand, certificateFields}
-use Rattle.certificate.specs.Due.{Kind, HD, LK, TN, SG, MD, GR, AR, EN, ZZ, fieldNumber, recordAt, Due, TooShort, WrongMark, BrokenLine, MissingName, WrongOrder, OtherSignal}
+use Rattle.certificate.specs.Due.{Kind, HD, LK, TN, SG, MD, GR, AR, EN, ZZ, fieldNumber, recordAt, Due, TooShort, WrongMark, BrokenLine, MissingName, WrongOrder, OtherSignal, OtherGoal}
 
 -- reading finds nothing to refuse exactly if every line of the layout holds
 abbrev pub ReadingIsPlain : Type 0
@@ -38,9 +38,17 @@ ReadableFits = (s : List ℕ) → Readable s → length s ≤ maxLength
 abbrev pub LongInput : Type 0
 LongInput = (s : List ℕ) → readingOf s ≡ readingOf (take (maxLength + 1) s)
 
--- the kind of a readable certificate is that of its mark: HD, or H2
+-- the kind of a readable certificate is that of its mark: HD, H2 or H3
 abbrev pub KindIsMark : Type 0
-KindIsMark = (s : List ℕ) → Readable s → (Mark s 0 72 68 × (remembers s ≡ false)) ⊎ (Mark s 0 72 50 × (remembers s ≡ true))
+KindIsMark =
+    (s : List ℕ) → Readable s
+    → (Mark s 0 72 68 × (remembers s ≡ false) × (takesTurns s ≡ false))
+    ⊎ (Mark s 0 72 50 × (remembers s ≡ true) × (takesTurns s ≡ false))
+    ⊎ (Mark s 0 72 51 × (remembers s ≡ true) × (takesTurns s ≡ true))
+
+-- whatever has goals in turn is otherwise as H2
+abbrev pub TurnsRemember : Type 0
+TurnsRemember = (s : List ℕ) → takesTurns s ≡ true → remembers s ≡ true
 
 -- in HD all stands as in document 01: no LK has a start flow of its own, there is no MD, and 23 passes
 pub record PlainLaid (s : List ℕ) : Type 0 where
@@ -52,11 +60,22 @@ pub record PlainLaid (s : List ℕ) : Type 0 where
 abbrev pub PlainLayout : Type 0
 PlainLayout = (s : List ℕ) → remembers s ≡ false → PlainLaid s
 
--- the numbers of reading: 0 for success, and refusals 1 to 9, 22 and 23
+-- in HD and H2 there is one goal: an MD has the signal alone, every mode has number 0 and the goals of LK, and 24 passes
+pub record OneGoal (s : List ℕ) : Type 0 where
+  pub size : modeSize s ≡ plainModeSize
+  pub number : (m : ℕ) → goalNumberOf s m ≡ 0
+  pub goal : (m l : ℕ) → goalFor s m l ≡ goalOf s l
+  pub turns-on : (e : ℕ) → turnsOn s e ≡ true
+
+abbrev pub OneGoalLayout : Type 0
+OneGoalLayout = (s : List ℕ) → takesTurns s ≡ false → OneGoal s
+
+-- the numbers of reading: 0 for success, and refusals 1 to 9, 22, 23 and 24
 pub data ReadingNumber (n : ℕ) : Type 0 where
   up-to-nine : n ≤ 9 → ReadingNumber n
   of-order : n ≡ 22 → ReadingNumber n
   of-memory : n ≡ 23 → ReadingNumber n
+  of-goal : n ≡ 24 → ReadingNumber n
 
 -- reading answers with no other number
 abbrev pub ReadingNumbers : Type 0
@@ -93,7 +112,7 @@ BrokenAt k s a = (i : ℕ) × Due s k i × BrokenLine s k i × (a ≡ recordAt s
 abbrev pub RefusedField : Kind → (List ℕ → Report) → Type 0
 RefusedField k answer = (s : List ℕ) (a b n : ℕ) → (answer s ≡ result (fieldNumber k) a b n) ↔ (BrokenAt k s a × (b ≡ 0) × (n ≡ 0))
 
--- 6: the field of an SG or of an MD does
+-- 6: a field of an SG or of an MD does
 abbrev pub RefusedSignal : (List ℕ → Report) → Type 0
 RefusedSignal answer = (s : List ℕ) (a b n : ℕ) → (answer s ≡ result 6 a b n) ↔ ((BrokenAt SG s a ⊎ BrokenAt MD s a) × (b ≡ 0) × (n ≡ 0))
 
@@ -113,6 +132,10 @@ RefusedOrder answer = (s : List ℕ) (a b n : ℕ) → (answer s ≡ result 22 a
 abbrev pub RefusedMemory : (List ℕ → Report) → Type 0
 RefusedMemory answer = (s : List ℕ) (a b n : ℕ) → (answer s ≡ result 23 a b n) ↔ (EntryDueAt OtherSignal s a × (b ≡ 0) × (n ≡ 0))
 
+-- 24: its names exist, its pair is above, its next mode remembers its signal, and has another goal number than is due
+abbrev pub RefusedGoal : (List ℕ → Report) → Type 0
+RefusedGoal answer = (s : List ℕ) (a b n : ℕ) → (answer s ≡ result 24 a b n) ↔ (EntryDueAt OtherGoal s a × (b ≡ 0) × (n ≡ 0))
+
 -- all of them
 pub record Refusals (answer : List ℕ → Report) : Type 0 where
   pub short : RefusedShort answer
@@ -126,6 +149,7 @@ pub record Refusals (answer : List ℕ → Report) : Type 0 where
   pub name : RefusedName answer
   pub order : RefusedOrder answer
   pub memory : RefusedMemory answer
+  pub goal : RefusedGoal answer
 
 abbrev pub ReadingRefuses : Type 0
 ReadingRefuses = Refusals readingOf

@@ -1,12 +1,12 @@
 -- Paper layout of document 01: the limits of the format, where each record stands, and its fields.
 -- Records come in the order HD, LK, TN, SG, GR, AR, EN, ZZ. Certificates of the kind H2 (document 02, 5/14) open with H2 in place of HD, have
--- a start flow in each LK, and MD records after SG.
+-- a start flow in each LK, and MD records after SG. Those of the kind H3 (6/14) have goals in turn besides: a goal number and goals in each MD.
 use Prim.Native.Nat.{ℕ, zero, suc, _+_, _*_, _-_}
 use mathlib.Core.List.{List}
-use mathlib.Core.Bool.{Bool}
+use mathlib.Core.Bool.{Bool, _||_}
 use lib.Dec.{eqb}
 use Rattle.certificate.specs.Octets.{byteAt, u16At}
-use Rattle.certificate.specs.Loops.{pick}
+use Rattle.certificate.specs.Loops.{pick, greatestTo}
 
 -- The limits.
 abbrev pub maxLinks : ℕ
@@ -50,6 +50,10 @@ maxIntervals = 15
 abbrev pub maxCells : ℕ
 maxCells = 4096
 
+-- of a goal number
+abbrev pub maxGoalNumber : ℕ
+maxGoalNumber = 7
+
 -- of a query's scale
 abbrev pub maxScale : ℕ
 maxScale = 100000
@@ -58,7 +62,7 @@ maxScale = 100000
 abbrev pub headerSize : ℕ
 headerSize = 9
 
--- LK of HD, and of H2, the greatest
+-- LK of HD, and of H2 and H3, the greatest
 abbrev pub plainLinkSize : ℕ
 plainLinkSize = 12
 
@@ -71,8 +75,12 @@ turnSize = 7
 abbrev pub signalSize : ℕ
 signalSize = 3
 
-abbrev pub modeSize : ℕ
-modeSize = 3
+-- MD of H2, and of H3
+abbrev pub plainModeSize : ℕ
+plainModeSize = 3
+
+abbrev pub goalModeSize : ℕ → ℕ
+goalModeSize links = 4 + 2 * links
 
 abbrev pub gridSize : ℕ → ℕ
 gridSize count = 1 + 2 * count
@@ -89,16 +97,20 @@ endSize = 2
 -- the greatest length of a certificate: the sum of its greatest records
 abbrev pub maxLength : ℕ
 maxLength =
-    headerSize + maxLinks * maxLinkSize + maxTurns * turnSize + maxSignals * signalSize + maxModes * modeSize + maxLinks * gridSize maxIntervals
-    + maxBoxes * arrivalSize maxLinks + maxEntries * entrySize + endSize
+    headerSize + maxLinks * maxLinkSize + maxTurns * turnSize + maxSignals * signalSize + maxModes * goalModeSize maxLinks
+    + maxLinks * gridSize maxIntervals + maxBoxes * arrivalSize maxLinks + maxEntries * entrySize + endSize
 
--- HD or H2: the kind, which is the second byte of the mark, and how many links, turns, signals, modes, arrival boxes, entries.
+-- HD, H2 or H3: the kind, which is the second byte of the mark, and how many links, turns, signals, modes, arrival boxes, entries.
 abbrev pub kindByteOf : List ℕ → ℕ
 kindByteOf s = byteAt s 1
 
--- the kind is H2: links have start flows, and modes remember the signal shown before
+-- the kind is H2 or H3: links have start flows, and modes remember the signal shown before
 unfoldable pub remembers : List ℕ → Bool
-remembers s = eqb (kindByteOf s) 50
+remembers s = eqb (kindByteOf s) 50 || eqb (kindByteOf s) 51
+
+-- the kind is H3: modes have goals in turn
+unfoldable pub takesTurns : List ℕ → Bool
+takesTurns s = eqb (kindByteOf s) 51
 
 abbrev pub linksOf : List ℕ → ℕ
 linksOf s = byteAt s 2
@@ -118,8 +130,8 @@ boxesOf s = byteAt s 6
 abbrev pub entriesOf : List ℕ → ℕ
 entriesOf s = u16At s 7
 
--- LK, link l: tail and head junction, cap (storage capacity), flow (saturation flow: the most that leaves in a step), safe, goal, and in H2 start
--- flow: the most that leaves in the first green step.
+-- LK, link l: tail and head junction, cap (storage capacity), flow (saturation flow: the most that leaves in a step), safe, goal, and in H2 and
+-- H3 start flow: the most that leaves in the first green step.
 unfoldable pub linkSize : List ℕ → ℕ
 linkSize s = pick (remembers s) maxLinkSize plainLinkSize
 
@@ -177,19 +189,37 @@ signalAt s g = signalsStart s + signalSize * g
 abbrev pub greenByteOf : List ℕ → ℕ → ℕ
 greenByteOf s g = byteAt s (signalAt s g + 2)
 
--- MD, mode m: the signal shown before. H2 has one a mode, HD none.
+-- MD, mode m: the signal shown before, and in H3 goal number and one goal a link. H2 and H3 have one a mode, HD none.
 unfoldable pub modeRecordsOf : List ℕ → ℕ
 modeRecordsOf s = pick (remembers s) (modesOf s) 0
 
 unfoldable pub modesStart : List ℕ → ℕ
 modesStart s = signalAt s (signalsOf s)
 
+unfoldable pub modeSize : List ℕ → ℕ
+modeSize s = pick (takesTurns s) (goalModeSize (linksOf s)) plainModeSize
+
 abbrev pub modeAt : List ℕ → ℕ → ℕ
-modeAt s m = modesStart s + modeSize * m
+modeAt s m = modesStart s + modeSize s * m
 
 -- 0 in HD, where no limit depends on it
 unfoldable pub shownBefore : List ℕ → ℕ → ℕ
 shownBefore s m = pick (remembers s) (byteAt s (modeAt s m + 2)) 0
+
+-- in HD and H2 there is one goal, number 0, that of LK
+unfoldable pub goalNumberOf : List ℕ → ℕ → ℕ
+goalNumberOf s m = pick (takesTurns s) (byteAt s (modeAt s m + 3)) 0
+
+-- the goal of mode m on link l
+unfoldable pub goalFor : List ℕ → ℕ → ℕ → ℕ
+goalFor s m l = pick (takesTurns s) (u16At s (modeAt s m + (4 + 2 * l))) (goalOf s l)
+
+-- the greatest goal number used, and the number after number n: 0 after the greatest
+unfoldable pub greatestGoal : List ℕ → ℕ
+greatestGoal s = greatestTo (modesOf s) (goalNumberOf s)
+
+unfoldable pub nextGoal : List ℕ → ℕ → ℕ
+nextGoal s n = pick (eqb n (greatestGoal s)) 0 (n + 1)
 
 -- GR, link l: how many intervals, and its cuts. The records differ in size, so each starts where the one before it ends.
 unfoldable pub gridStart : List ℕ → ℕ

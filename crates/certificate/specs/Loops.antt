@@ -1,5 +1,5 @@
--- Sums, tests of some and of every index, and counted loops, by which the other definitions are written.
-use Prim.Native.Nat.{ℕ, zero, suc, _+_, _-_}
+-- Sums, the greatest of some, tests of some and of every index, and counted loops, by which the other definitions are written.
+use Prim.Native.Nat.{ℕ, zero, suc, _+_, _-_, max}
 use mathlib.Core.Bool.{Bool, true, false, _&&_, _||_}
 
 -- a where the test holds, else b
@@ -11,6 +11,11 @@ pick false a b = b
 unfoldable pub sumTo : ℕ → (ℕ → ℕ) → ℕ
 sumTo zero f = 0
 sumTo (suc n) f = sumTo n f + f n
+
+-- the greatest of f 0 .. f (n - 1), 0 where n is 0
+unfoldable pub greatestTo : ℕ → (ℕ → ℕ) → ℕ
+greatestTo zero f = 0
+greatestTo (suc n) f = max (greatestTo n f) (f n)
 
 -- the test holds of some index below n
 unfoldable pub anyTo : ℕ → (ℕ → Bool) → Bool

@@ -27,7 +27,7 @@ arrivalsFault s = firstBad (boxesOf s) (arrivalFault s)
 unfoldable pub entriesFault : List ℕ → Report
 entriesFault s = firstBad (entriesOf s) (entryFault s)
 
--- refusals 1 to 9, 22 and 23, or fine for a readable certificate
+-- refusals 1 to 9, 22, 23 and 24, or fine for a readable certificate
 unfoldable pub readingOf : List ℕ → Report
 readingOf s =
     orElse (headerFault s)

@@ -1,4 +1,4 @@
--- The tests of each record, and their refusals 1 to 9, 22 and 23.
+-- The tests of each record, and their refusals 1 to 9, 22, 23 and 24.
 use Prim.Native.Nat.{ℕ, zero, suc, _+_, _*_, _-_, _^_}
 use mathlib.Core.List.{List}
 use mathlib.Core.Bool.{Bool, true, not, _&&_, _||_}
@@ -6,11 +6,11 @@ use lib.ListN.{length}
 use lib.Dec.{ltb, leb, eqb}
 use Rattle.certificate.specs.declared.Report.{Report}
 use Rattle.certificate.specs.Octets.{byteAt, _also_}
-use Rattle.certificate.specs.Loops.{pick, sumTo}
+use Rattle.certificate.specs.Loops.{pick, sumTo, anyTo, every}
 use Rattle.certificate.specs.Checks.{refusal, fine, need, orElse, firstBad, marked, opened}
-use Rattle.certificate.specs.Layout.{maxLinks, maxTurns, maxSignals, maxModes, maxBoxes, maxEntries, maxCap, maxShare, maxPull, maxArrival, maxIntervals, maxCells, headerSize, linkSize, turnSize, signalSize, modeSize, gridSize, arrivalSize, entrySize, endSize, linksOf, turnsOf, signalsOf, modesOf, boxesOf, entriesOf, remembers, linkAt, tailOf, headOf, capOf, flowOf, safeOf, goalOf, startFlowOf, turnAt, fromOf, toOf, shareOf, pullOf, signalAt, greenByteOf, modeAt, shownBefore, gridAt, intervalsOf, cutOf, productOf, cellsOf, arrivalAt, lowOf, highOf, entryAt, cellOf, modeOf, signalOf, nextModeOf, endAt}
+use Rattle.certificate.specs.Layout.{maxLinks, maxTurns, maxSignals, maxModes, maxBoxes, maxEntries, maxCap, maxShare, maxPull, maxArrival, maxIntervals, maxCells, maxGoalNumber, headerSize, linkSize, turnSize, signalSize, modeSize, gridSize, arrivalSize, entrySize, endSize, linksOf, turnsOf, signalsOf, modesOf, boxesOf, entriesOf, remembers, takesTurns, linkAt, tailOf, headOf, capOf, flowOf, safeOf, goalOf, startFlowOf, turnAt, fromOf, toOf, shareOf, pullOf, signalAt, greenByteOf, modeAt, shownBefore, goalNumberOf, goalFor, greatestGoal, nextGoal, gridAt, intervalsOf, cutOf, productOf, cellsOf, arrivalAt, lowOf, highOf, entryAt, cellOf, modeOf, signalOf, nextModeOf, rankOf, endAt}
 
--- HD: links 1 to 8, turns 0 to 32, signals 1 to 16, modes 1 to 8, arrival boxes 1 to 8, entries 1 to 4,096. Mark "HD" or "H2".
+-- HD: links 1 to 8, turns 0 to 32, signals 1 to 16, modes 1 to 8, arrival boxes 1 to 8, entries 1 to 4,096. Mark "HD", "H2" or "H3".
 unfoldable pub headerOk : List ℕ → Bool
 headerOk s =
     leb 1 (linksOf s) also leb (linksOf s) maxLinks
@@ -21,7 +21,7 @@ headerOk s =
     also leb 1 (entriesOf s) also leb (entriesOf s) maxEntries
 
 unfoldable pub headerMarked : List ℕ → Bool
-headerMarked s = marked s 0 72 68 || marked s 0 72 50
+headerMarked s = marked s 0 72 68 || marked s 0 72 50 || marked s 0 72 51
 
 unfoldable pub headerFault : List ℕ → Report
 headerFault s = orElse (opened s 0 (headerMarked s) headerSize) (need (headerOk s) (refusal 3 0) fine)
@@ -79,13 +79,41 @@ signalFault s g =
     orElse (opened s (signalAt s g) (marked s (signalAt s g) 83 71) signalSize)
     (need (signalOk s g) (refusal 6 (signalAt s g)) fine)
 
--- MD: the signal shown before exists. Mark "MD".
+-- the goals of mode m are at most safe
+unfoldable pub goalsSafe : List ℕ → ℕ → Bool
+goalsSafe s m = every (linksOf s) (λ l. leb (goalFor s m l) (safeOf s l))
+
+-- modes k and m have equal goals
+unfoldable pub sameGoals : List ℕ → ℕ → ℕ → Bool
+sameGoals s k m = every (linksOf s) (λ l. eqb (goalFor s k l) (goalFor s m l))
+
+-- the goals of mode m are those of each mode before it that has its goal number
+unfoldable pub goalsAgree : List ℕ → ℕ → Bool
+goalsAgree s m = every m (λ k. not (eqb (goalNumberOf s k) (goalNumberOf s m)) || sameGoals s k m)
+
+-- goal number n is used
+unfoldable pub isUsed : List ℕ → ℕ → Bool
+isUsed s n = anyTo (modesOf s) (λ m. eqb (goalNumberOf s m) n)
+
+-- the goal numbers used are 0 up to the greatest
+unfoldable pub noGap : List ℕ → Bool
+noGap s = every (greatestGoal s) (isUsed s)
+
+-- the goals of mode m in H3: number 0 to 7, goals at most safe, equal goals for equal numbers, and at the last mode no gap
+unfoldable pub goalsOk : List ℕ → ℕ → Bool
+goalsOk s m =
+    leb (goalNumberOf s m) maxGoalNumber
+    also goalsSafe s m
+    also goalsAgree s m
+    also (not (eqb (m + 1) (modesOf s)) || noGap s)
+
+-- MD: the signal shown before exists; in H3 the goals are as they must be. Mark "MD".
 unfoldable pub modeOk : List ℕ → ℕ → Bool
-modeOk s m = ltb (shownBefore s m) (signalsOf s)
+modeOk s m = ltb (shownBefore s m) (signalsOf s) also (not (takesTurns s) || goalsOk s m)
 
 unfoldable pub modeFault : List ℕ → ℕ → Report
 modeFault s m =
-    orElse (opened s (modeAt s m) (marked s (modeAt s m) 77 68) modeSize)
+    orElse (opened s (modeAt s m) (marked s (modeAt s m) 77 68) (modeSize s))
     (need (modeOk s m) (refusal 6 (modeAt s m)) fine)
 
 -- the cut before cut i of link l, and 0 before the first
@@ -137,19 +165,26 @@ unfoldable pub entryAscends : List ℕ → ℕ → Bool
 entryAscends s zero = true
 entryAscends s (suc e) = pairBelow (cellOf s e) (modeOf s e) (cellOf s (suc e)) (modeOf s (suc e))
 
--- in H2 the next mode of entry e remembers its signal
+-- in H2 and H3 the next mode of entry e remembers its signal
 unfoldable pub passesOn : List ℕ → ℕ → Bool
 passesOn s e = not (remembers s) || eqb (shownBefore s (nextModeOf s e)) (signalOf s e)
 
--- EN: names exist (9), then pairs ascend (22), then the next mode remembers the signal (23), all with the record's offset; the rank is free.
--- Mark "EN".
+-- the next mode of entry e has the goal number of its mode where its rank is above 0, and the next number where its rank is 0
+unfoldable pub turnsOn : List ℕ → ℕ → Bool
+turnsOn s e =
+    eqb (goalNumberOf s (nextModeOf s e))
+    (pick (eqb (rankOf s e) 0) (nextGoal s (goalNumberOf s (modeOf s e))) (goalNumberOf s (modeOf s e)))
+
+-- EN: names exist (9), then pairs ascend (22), then the next mode remembers the signal (23), then it has the goal number due (24), all with the
+-- record's offset; the rank is free but for 24. Mark "EN".
 unfoldable pub entryFault : List ℕ → ℕ → Report
 entryFault s e =
     orElse (opened s (entryAt s e) (marked s (entryAt s e) 69 78) entrySize)
     (need (namesExist s e) (refusal 9 (entryAt s e))
     (need (entryAscends s e) (refusal 22 (entryAt s e))
     (need (passesOn s e) (refusal 23 (entryAt s e))
-    fine)))
+    (need (turnsOn s e) (refusal 24 (entryAt s e))
+    fine))))
 
 -- ZZ: nothing follows; a byte after it is refused at its own offset. Mark "ZZ".
 unfoldable pub endFault : List ℕ → Report

@@ -27,9 +27,11 @@ pub const MAX_INTERVALS: usize = 15;
 
 pub const MAX_CELLS: usize = 4096;
 
+pub const MAX_GOAL_NUMBER: usize = 7;
+
 pub const HEADER_SIZE: usize = 9;
 
-// LK of HD, and of H2, the greatest.
+// LK of HD, and of H2 and H3, the greatest.
 pub const PLAIN_LINK_SIZE: usize = 12;
 
 pub const MAX_LINK_SIZE: usize = 14;
@@ -38,7 +40,10 @@ pub const TURN_SIZE: usize = 7;
 
 pub const SIGNAL_SIZE: usize = 3;
 
-pub const MODE_SIZE: usize = 3;
+// MD of H2, and the greatest of H3.
+pub const PLAIN_MODE_SIZE: usize = 3;
+
+pub const MAX_MODE_SIZE: usize = 4 + 2 * MAX_LINKS;
 
 pub const ENTRY_SIZE: usize = 9;
 
@@ -49,7 +54,7 @@ pub const MAX_LENGTH: usize = HEADER_SIZE
     + MAX_LINKS * MAX_LINK_SIZE
     + MAX_TURNS * TURN_SIZE
     + MAX_SIGNALS * SIGNAL_SIZE
-    + MAX_MODES * MODE_SIZE
+    + MAX_MODES * MAX_MODE_SIZE
     + MAX_LINKS * (1 + 2 * MAX_INTERVALS)
     + MAX_BOXES * (2 + 4 * MAX_LINKS)
     + MAX_ENTRIES * ENTRY_SIZE

@@ -1,2 +1,2 @@
-// Entries: the fields of their records and their tests (refusals 9, 22 and 23).
+// Entries: the fields of their records.
 pub mod entries;

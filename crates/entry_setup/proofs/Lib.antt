@@ -1,5 +1,4 @@
--- The table of arrivals, the edges of a cell, how an entry stands, the ends of its image before arrivals, and its task.
+-- The table of arrivals, the edges of a cell, the ends of its image before arrivals, and its task.
 pub mod Arrivals
 pub mod EntryEnds
 pub mod Tasks
-pub mod EdgeLimits

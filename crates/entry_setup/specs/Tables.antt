@@ -89,7 +89,3 @@ pub record IsTask (s : List ℕ) (task : Task) : Type 0 where
   pub row-fits : task .row + task .cells ≤ maxModes * maxCells
   pub rank-is : task .rank ≡ rankOf s (task .entry)
   pub bound-is : task .bound ≡ boundFor (task .rank)
-
--- a table of the upper edges of entry e's cell, one a link
-abbrev pub UpperEdges : List ℕ → ℕ → List ℕ → Type 0
-UpperEdges s e upper = (l : ℕ) → l < linksOf s → getD upper l 0 ≡ upperOf s (cellOf s e) l

@@ -18,10 +18,10 @@ use cell_tables::tables;
 use certificate::limits;
 use entry_records::entries;
 use images::ends;
+use mode_records::modes;
 use octets::numbers;
 use reading::Layout;
 use road_records::links;
-use signal_records::modes;
 use signal_records::signals;
 
 // The greatest number of 32 bits: nothing in the table of ranks is above it.
@@ -128,7 +128,7 @@ fn byte_before(s: &[u8], layout: Layout, e: usize, byte: usize) -> usize
         return byte;
     }
     let mode = entries::mode_of(s, layout.entries_start, e);
-    let shown = modes::shown_before(s, layout.modes_start, mode);
+    let shown = modes::shown_before(s, modes::place_of(s, layout.modes_start), mode);
     signals::green_byte_of(s, layout.signals_start, shown)
 }
 

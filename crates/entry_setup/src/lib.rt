@@ -1,11 +1,10 @@
-// What judging finds out once of a certificate, as tables, and once of an entry: its task, the edges of its cell, how it stands (12, 13),
-// what its links may send, and the ends of its image before arrivals.
+// What judging finds out once of a certificate, as tables, and once of an entry: its task, the edges of its cell, what its links may send,
+// and the ends of its image before arrivals.
 
 use certificate::limits;
 
 pub mod amounts;
 pub mod entry;
-pub mod standing;
 
 // What the search through an entry's successors goes by: how many arrival boxes and cells there are, and the entry's number,
 // where the ranks of its next mode stand, its own rank, and the most that the table of ranks may have for a successor.

@@ -1,20 +1,23 @@
-// HD or H2: the kind, how many links, turns, signals, modes, arrival boxes and entries there are, and its tests (refusal 3).
+// HD, H2 or H3: the kind, how many links, turns, signals, modes, arrival boxes and entries there are, and its tests (refusal 3).
 ghost use mathlib.Core.Path.{_≡_};
 ghost use Prim.Native.Nat.{_<_, _≤_};
 ghost use lib.ListN.{length};
-ghost use Rattle.certificate.specs.Layout.{remembers, linksOf, turnsOf, signalsOf, modesOf, boxesOf, entriesOf};
+ghost use Rattle.certificate.specs.Layout.{remembers, takesTurns, linksOf, turnsOf, signalsOf, modesOf, boxesOf, entriesOf};
 ghost use Rattle.certificate.specs.Records.{headerOk, headerMarked, headerFault};
 use certificate::Report;
 use certificate::limits;
 
-// The second byte of the mark H2.
+// The second bytes of the marks H2 and H3.
 const START_FLOW_KIND: usize = 50;
 
-// Whether the kind is H2: links have start flows, and modes remember the signal shown before.
+const GOALS_KIND: usize = 51;
+
+// Whether the kind is H2 or H3: links have start flows, and modes remember the signal shown before.
 pub fn has_memory(s: &[u8]) -> bool
     ensures { λ r. ⌜ r ≡ remembers (now (s .entry)) ⌝ }
 {
-    octets::byte_at(s, 1) == START_FLOW_KIND
+    let kind = octets::byte_at(s, 1);
+    (kind == START_FLOW_KIND) | (kind == GOALS_KIND)
 }
 
 // The same where there are two bytes at least: no test.
@@ -22,7 +25,15 @@ pub fn has_memory_within(s: &[u8]) -> bool
     requires { ⌜ 2 ≤ length (now s) ⌝ }
     ensures { λ r. ⌜ r ≡ remembers (now (s .entry)) ⌝ }
 {
-    octets::byte_within(s, 1) == START_FLOW_KIND
+    let kind = octets::byte_within(s, 1);
+    (kind == START_FLOW_KIND) | (kind == GOALS_KIND)
+}
+
+// Whether the kind is H3: modes have goals in turn.
+pub fn takes_turns(s: &[u8]) -> bool
+    ensures { λ r. ⌜ r ≡ takesTurns (now (s .entry)) ⌝ }
+{
+    octets::byte_at(s, 1) == GOALS_KIND
 }
 
 pub fn links_of(s: &[u8]) -> usize
@@ -83,11 +94,13 @@ fn counts_ok(s: &[u8]) -> bool
         & (entries <= limits::MAX_ENTRIES)
 }
 
-// The mark is HD or H2.
+// The mark is HD, H2 or H3.
 fn header_marked(s: &[u8]) -> bool
     ensures { λ r. ⌜ r ≡ headerMarked (now (s .entry)) ⌝ }
 {
-    octets::marked_as(s, 0, 72, 68) | octets::marked_as(s, 0, 72, START_FLOW_KIND)
+    octets::marked_as(s, 0, 72, 68)
+        | octets::marked_as(s, 0, 72, START_FLOW_KIND)
+        | octets::marked_as(s, 0, 72, GOALS_KIND)
 }
 
 pub fn check_header(s: &[u8]) -> Report

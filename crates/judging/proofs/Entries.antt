@@ -8,7 +8,7 @@ use native.Mathlib.Omega.{arith}
 use borrow.Author.Tests.{leb-true, leb-false, le-leb, ltb-true, lt-ltb, eqb-true, eqb-false, eq-eqb}
 use lib.Dec.{eqb, leb, ltb}
 use Rattle.certificate.specs.Loops.{every, find}
-use Rattle.certificate.specs.Layout.{linksOf, safeOf, goalOf, entriesOf, cellOf, nextModeOf, rankOf}
+use Rattle.certificate.specs.Layout.{linksOf, safeOf, goalFor, entriesOf, cellOf, modeOf, nextModeOf, rankOf}
 use Rattle.certificate.specs.Facts.{Readable, PairBelow}
 use Rattle.certificate.proofs.Tests.{and-both, both-and}
 use Rattle.certificate.proofs.Loops.{every-each, each-every, found, find-least}
@@ -31,7 +31,7 @@ safe-tells s e = edges-tell s (cellOf s e) (safeOf s)
 
 goal-tells : (s : List ℕ) (e : ℕ) → Tells (isGoal s e) (GoalCell s e)
 unfolding isGoal
-goal-tells s e = edges-tell s (cellOf s e) (goalOf s)
+goal-tells s e = edges-tell s (cellOf s e) (goalFor s (modeOf s e))
 
 pub rank-tells : (s : List ℕ) (e : ℕ) → Tells (isRanked s e) (RankFits s e)
 unfolding isRanked

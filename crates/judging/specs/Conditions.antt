@@ -5,7 +5,7 @@ use mathlib.Core.Bool.{true}
 use mathlib.Core.Logic.{_↔_, _⊎_}
 use mathlib.Core.Path.{_≡_}
 use Rattle.certificate.specs.Loops.{pick, sumTo}
-use Rattle.certificate.specs.Layout.{linksOf, safeOf, goalOf, cellsOf, boxesOf, entriesOf, cellOf, modeOf, nextModeOf, rankOf}
+use Rattle.certificate.specs.Layout.{linksOf, safeOf, goalFor, cellsOf, boxesOf, entriesOf, cellOf, modeOf, nextModeOf, rankOf}
 use Rattle.network.specs.Network.{entryLimit}
 use Rattle.grid.specs.Cells.{upperOf}
 use Rattle.grid.specs.Successors.{isSuccessor}
@@ -14,11 +14,11 @@ use Rattle.grid.specs.Successors.{isSuccessor}
 abbrev pub SafeCell : List ℕ → ℕ → Type 0
 SafeCell s e = (l : ℕ) → l < linksOf s → upperOf s (cellOf s e) l ≤ safeOf s l
 
--- all its upper edges are at most goal
+-- all its upper edges are at most the goal of its mode
 abbrev pub GoalCell : List ℕ → ℕ → Type 0
-GoalCell s e = (l : ℕ) → l < linksOf s → upperOf s (cellOf s e) l ≤ goalOf s l
+GoalCell s e = (l : ℕ) → l < linksOf s → upperOf s (cellOf s e) l ≤ goalFor s (modeOf s e) l
 
--- its rank is 0 exactly when all its upper edges are at most goal
+-- its rank is 0 exactly when all its upper edges are at most that goal
 abbrev pub RankFits : List ℕ → ℕ → Type 0
 RankFits s e = (rankOf s e ≡ 0) ↔ GoalCell s e
 

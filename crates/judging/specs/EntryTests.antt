@@ -7,7 +7,7 @@ use lib.Dec.{eqb, leb, ltb}
 use Rattle.certificate.specs.declared.Report.{Report}
 use Rattle.certificate.specs.Loops.{pick, every, loopFrom}
 use Rattle.certificate.specs.Checks.{result, fine, need, orElse}
-use Rattle.certificate.specs.Layout.{linksOf, safeOf, goalOf, cellsOf, boxesOf, entriesOf, cellOf, nextModeOf, rankOf}
+use Rattle.certificate.specs.Layout.{linksOf, safeOf, goalFor, cellsOf, boxesOf, entriesOf, cellOf, modeOf, nextModeOf, rankOf}
 use Rattle.network.specs.Network.{entryLimit}
 use Rattle.grid.specs.Cells.{upperOf}
 use Rattle.grid.specs.Successors.{isSuccessor}
@@ -17,11 +17,11 @@ use Rattle.judging.specs.Lookup.{entryFor, isListed}
 unfoldable pub isSafe : List ℕ → ℕ → Bool
 isSafe s e = every (linksOf s) (λ l. leb (upperOf s (cellOf s e) l) (safeOf s l))
 
--- all upper edges of entry e's cell are at most goal
+-- all upper edges of entry e's cell are at most the goal of its mode
 unfoldable pub isGoal : List ℕ → ℕ → Bool
-isGoal s e = every (linksOf s) (λ l. leb (upperOf s (cellOf s e) l) (goalOf s l))
+isGoal s e = every (linksOf s) (λ l. leb (upperOf s (cellOf s e) l) (goalFor s (modeOf s e) l))
 
--- the rank of entry e is 0 exactly when all upper edges are at most goal
+-- the rank of entry e is 0 exactly when all upper edges are at most that goal
 unfoldable pub isRanked : List ℕ → ℕ → Bool
 isRanked s e = cond (eqb (rankOf s e) 0) (isGoal s e) (not (isGoal s e))
 

@@ -55,12 +55,12 @@ VerdictOfLong = (s : List ℕ) → verdictOf s ≡ verdictOf (take (maxLength + 
 
 -- Refused with number and places exactly if that test fails and none before it in the stated order does: one law a stage.
 
--- 1 to 9, 22 and 23: reading refuses
+-- 1 to 9, 22, 23 and 24: reading refuses
 abbrev pub RefusedReading : Type 0
 RefusedReading =
     (s : List ℕ) (r : Report) → (r .number ≡ 0 → ⊥) → ReadingNumber (r .number) → (verdictOf s ≡ r) ↔ (readingOf s ≡ r)
 
--- so each of 1 to 9, 22 and 23 exactly if the record that is due has that fault (crate certificate, specs/Laws.antt)
+-- so each of 1 to 9, 22, 23 and 24 exactly if the record that is due has that fault (crate certificate, specs/Laws.antt)
 abbrev pub RefusedRecord : Type 0
 RefusedRecord = Refusals verdictOf
 
@@ -100,7 +100,7 @@ RefusedUnsafe =
     (s : List ℕ) (e b n : ℕ)
     → (verdictOf s ≡ result 12 e b n) ↔ (Reaches s e × (SafeCell s e → ⊥) × (b ≡ 0) × (n ≡ lookedEntries s e))
 
--- 13: its cell is safe, and its rank does not fit the goal
+-- 13: its cell is safe, and its rank does not fit the goal of its mode
 abbrev pub RefusedRank : Type 0
 RefusedRank =
     (s : List ℕ) (e b n : ℕ)

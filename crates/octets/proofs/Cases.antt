@@ -9,8 +9,10 @@ use borrow.Author.Tests.{lt-ltb, le-ltb, le-leb, lt-leb, eq-eqb, ne-eqb, eqb-fal
 use lib.Dec.{eqb, leb}
 use lib.ListN.{length}
 use Rattle.certificate.specs.declared.Report.{Report}
+use Rattle.certificate.specs.Loops.{everyFrom}
 use Rattle.certificate.specs.Checks.{refusal, fine, need, orElse, firstFrom, opened}
 use Rattle.certificate.proofs.Says.{opened-says}
+use Rattle.certificate.proofs.Loops.{every-turn, every-end}
 use Rattle.certificate.proofs.Tests.{need-pass, need-fail, or-next, or-stop, passes, first-turn, first-end}
 
 -- a test's outcome that has a name, r
@@ -59,6 +61,16 @@ stop n i f r t h e z p = first r (f i) _ e z ∙ sym (first-turn n i f h) ∙ p
 
 pub end : (n i : ℕ) (f : ℕ → Report) (r t : Report) → n ≤ i → r ≡ fine → firstFrom n f i ≡ t → r ≡ t
 end n i f r t h e p = e ∙ sym (first-end n i f h) ∙ p
+
+-- a loop of tests that asks whether all pass: go on, stop, end
+pub all-on : (n i : ℕ) (p : ℕ → Bool) (v t : Bool) → i < n → v ≡ p i → v ≡ true → everyFrom n p i ≡ t → everyFrom n p (i + 1) ≡ t
+all-on n i p v t h e y q = sym (every-turn n i p h ∙ rw (sym e ∙ y)) ∙ q
+
+pub all-stop : (n i : ℕ) (p : ℕ → Bool) (v t : Bool) → i < n → v ≡ p i → v ≡ false → everyFrom n p i ≡ t → false ≡ t
+all-stop n i p v t h e y q = sym (every-turn n i p h ∙ rw (sym e ∙ y)) ∙ q
+
+pub all-end : (n i : ℕ) (p : ℕ → Bool) (t : Bool) → n ≤ i → everyFrom n p i ≡ t → true ≡ t
+all-end n i p t h q = sym (every-end n i p h) ∙ q
 
 -- tests in groups
 pub in-groups : (f g h : Report) → orElse (orElse f g) h ≡ orElse f (orElse g h)

@@ -12,13 +12,16 @@ use Rattle.reading.specs.declared.Reading.{Reading}
 use Rattle.reading.specs.declared.Starts.{Starts}
 use Rattle.certificate.specs.Loops.{pick}
 use Rattle.certificate.specs.Checks.{orElse}
-use Rattle.certificate.specs.Layout.{maxLinks, turnSize, signalSize, modeSize, arrivalSize, linksOf, turnsOf, signalsOf, modesOf, boxesOf, entriesOf, linkAt, turnsStart, signalsStart, modeRecordsOf, modesStart, gridStart, gridAt, arrivalsStart, entriesStart}
+use Rattle.certificate.specs.Layout.{maxLinks, maxModes, turnSize, signalSize, arrivalSize, linksOf, turnsOf, signalsOf, modesOf, boxesOf, entriesOf, linkAt, turnsStart, signalsStart, modeRecordsOf, modesStart, modeAt, gridStart, gridAt, arrivalsStart, entriesStart}
 use Rattle.certificate.specs.Records.{headerFault, endFault}
 use Rattle.certificate.specs.Reading.{linksFault, turnsFault, signalsFault, readingOf}
 use Rattle.certificate.specs.Facts.{HeaderFacts}
 use Rattle.box_records.specs.GridRecords.{GridsLaid}
 use Rattle.reading.specs.ReadingResults.{StartsOf, gridPlace, networkFault, tailFault, backFault, LaidOut, noLayout, ReadAs}
 use Rattle.octets.specs.Tables.{tableOf}
+use Rattle.mode_records.specs.declared.modes.Place.{Place}
+use Rattle.mode_records.specs.Placed.{Placed}
+use Rattle.certificate.proofs.KindSizes.{records-most, all-modes-most}
 use Rattle.octets.proofs.Cases.{in-groups}
 use Rattle.octets.proofs.FilledTables.{table-is}
 use Rattle.box_records.proofs.Products.{box-offset}
@@ -48,13 +51,21 @@ module _ (s : List ℕ) where
   header-facts e z = header-says s .0 (rw e at z) .1
 
   -- where the records begin, from the counts of HD
-  pub starts-are : {links turns signals modes records first second third fourth : ℕ}
-      → links ≡ linksOf s → turns ≡ turnsOf s → turns < 256 → signals ≡ signalsOf s → signals < 256 → modes < 256 → records ≡ modeRecordsOf s → records ≤ modes
-      → first ≡ linkAt s links → first ≤ 4000 → second ≡ first + turnSize * turns → third ≡ second + signalSize * signals → fourth ≡ third + modeSize * records
+  pub modes-begin : {links turns signals first second third : ℕ} → links ≡ linksOf s → turns ≡ turnsOf s → signals ≡ signalsOf s
+      → first ≡ linkAt s links → second ≡ first + turnSize * turns → third ≡ second + signalSize * signals → third ≡ modesStart s
+  unfolding turnsStart signalsStart modesStart
+  modes-begin el et es p1 p2 p3 = let place = p1 ∙ ap (linkAt s) el in omega arith
+
+  pub starts-are : HeaderFacts s → {links turns signals records first second third fourth : ℕ} {place : Place}
+      → links ≡ linksOf s → turns ≡ turnsOf s → turns < 256 → signals ≡ signalsOf s → signals < 256 → records ≡ modeRecordsOf s
+      → first ≡ linkAt s links → first ≤ 4000 → second ≡ first + turnSize * turns → third ≡ second + signalSize * signals
+      → Placed s place → fourth ≡ place .start + place .size * records
       → StartsOf s (record { turns = first; signals = second; modes = third; grids = fourth })
   unfolding turnsStart signalsStart modesStart gridStart
-  starts-are el et lt es ls lm er few p1 far p2 p3 p4 =
+  starts-are H {records = records} el et lt es ls er p1 far p2 p3 P p4 =
       let place = p1 ∙ ap (linkAt s) el in
+      let most = all-modes-most s (H .links-most) (modeRecordsOf s) maxModes (omega (arith, records-most s, H .modes-most)) in
+      let last : _ ≡ modeAt s (modeRecordsOf s) = p4 ∙ rw (P .start-is, P .size-is, er) in
       record {
         turns-is = place;
         turns-most = omega arith;

@@ -13,8 +13,9 @@ use box_records::grids;
 use certificate::Report;
 use certificate::limits;
 use entry_records::entries;
+use mode_records::goals;
+use mode_records::modes;
 use road_records::links;
-use signal_records::modes;
 use signal_records::signals;
 use turn_records::turns;
 
@@ -81,13 +82,14 @@ struct Starts {
 }
 
 fn starts_of(s: &[u8]) -> Starts
+    requires { ⌜ HeaderFacts (now s) ⌝ }
     ensures { λ r. ⌜ StartsOf (now (s .entry)) r ⌝ }
 {
     let turns = links::link_at(s, header_record::links_of(s));
     let signals = turns::turn_at(turns, header_record::turns_of(s));
     let modes = signals::signal_at(signals, header_record::signals_of(s));
     let records = modes::records_of(s, header_record::modes_of(s));
-    let grids = modes::mode_at(modes, records);
+    let grids = modes::mode_at(modes::place_of(s, modes), records);
     Starts {
         turns,
         signals,
@@ -110,13 +112,11 @@ fn check_network(s: &[u8], starts: Starts) -> Report
     if g.number != 0 {
         return g;
     }
-    let signals = header_record::signals_of(s);
-    let h = signals::check_signals(s, starts.signals, links, signals);
+    let h = signals::check_signals(s, starts.signals, links, header_record::signals_of(s));
     if h.number != 0 {
         return h;
     }
-    let records = modes::records_of(s, header_record::modes_of(s));
-    modes::check_modes(s, starts.modes, signals, records)
+    mode_checks::modes::check_modes(s, starts.modes)
 }
 
 // The layout of a certificate whose records up to the last GR are as they must be.
@@ -153,14 +153,17 @@ fn check_tail(s: &[u8], layout: Layout) -> Report
     if f.number != 0 {
         return f;
     }
-    let counts = entries::Counts {
+    let place = modes::place_of(s, layout.modes_start);
+    let counts = entry_checks::Counts {
         signals: layout.signals,
         modes: layout.modes,
         cells: layout.cells,
         memory: header_record::has_memory(s),
-        modes_start: layout.modes_start,
+        turns: header_record::takes_turns(s),
+        place,
+        greatest: goals::greatest_goal(s, place),
     };
-    let g = entries::check_entries(s, layout.entries_start, counts, layout.entries);
+    let g = entry_checks::check_entries(s, layout.entries_start, counts, layout.entries);
     if g.number != 0 {
         return g;
     }
@@ -185,7 +188,7 @@ fn read_back(s: &[u8], starts: Starts) -> Reading
     Reading { report: g, layout }
 }
 
-// Reads any bytes: refusals 1 to 9, 22 and 23, or success and the layout.
+// Reads any bytes: refusals 1 to 9, 22, 23 and 24, or success and the layout.
 pub fn read(s: &[u8]) -> Reading
     ensures { λ r. ⌜ ReadAs (now (s .entry)) (readingOf (now (s .entry))) r ⌝ }
 {

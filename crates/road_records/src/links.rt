@@ -9,7 +9,7 @@ ghost use Rattle.certificate.specs.Records.{linkOk, linkFault};
 use certificate::Report;
 use certificate::limits;
 
-// The size of a link's record, by whether the kind is H2.
+// The size of a link's record, by whether the kind is H2 or H3.
 fn size_for(s: &[u8], memory: bool) -> usize
     requires { ⌜ memory ≡ remembers (now s) ⌝ }
     ensures { λ r. ⌜ (r ≡ linkSize (now (s .entry))) × (plainLinkSize ≤ r) × (r ≤ maxLinkSize) ⌝ }
@@ -110,7 +110,7 @@ pub fn goal_of(s: &[u8], l: usize) -> usize
     link_u16(s, l, 10)
 }
 
-// In H2 the most that leaves in the first green step; in HD the flow.
+// In H2 and H3 the most that leaves in the first green step; in HD the flow.
 pub fn start_flow_of(s: &[u8], l: usize) -> usize
     requires { ⌜ l < 256 ⌝ }
     ensures { λ r. ⌜ (r ≡ startFlowOf (now (s .entry)) l) × (r < 65536) ⌝ }

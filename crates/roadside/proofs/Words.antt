@@ -15,7 +15,7 @@ use Rattle.certificate.specs.Checks.{refusal, need}
 use Rattle.certificate.specs.Layout.{maxLength, linksOf, signalsOf, boxesOf, entriesOf, cellsOf, greenByteOf, signalOf}
 use Rattle.certificate.specs.Facts.{Readable}
 use Rattle.certificate.specs.Reading.{readingOf}
-use Rattle.certificate.specs.Laws.{ReadingNumber, up-to-nine, of-order, of-memory}
+use Rattle.certificate.specs.Laws.{ReadingNumber, up-to-nine, of-order, of-memory, of-goal}
 use Rattle.certificate.proofs.Tests.{passes}
 use Rattle.certificate.proofs.Size.{cells-in-range}
 use Rattle.certificate.proofs.Plain.{readable-of}
@@ -55,6 +55,7 @@ reading-small : (n : ℕ) → ReadingNumber n → n < 256
 reading-small n (up-to-nine h) = omega arith
 reading-small n (of-order e) = omega arith
 reading-small n (of-memory e) = omega arith
+reading-small n (of-goal e) = omega arith
 
 -- the entries, boxes and cells of a readable certificate
 count-small : (s : List ℕ) → Readable s → entriesOf s * boxesOf s * cellsOf s < 268435456

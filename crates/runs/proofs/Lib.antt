@@ -4,5 +4,6 @@ pub mod Cells
 pub mod Lookup
 pub mod Steps
 pub mod Moments
+pub mod Turning
 pub mod RunClaim
 pub mod TurnedAway

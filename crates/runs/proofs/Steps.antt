@@ -9,7 +9,7 @@ use borrow.Author.Tests.{lt-ltb, le-leb, ltb-true}
 use lib.ListN.{length}
 use lib.Dec.{leb}
 use Rattle.certificate.specs.Loops.{every}
-use Rattle.certificate.specs.Layout.{linksOf, capOf, safeOf, goalOf, entriesOf, cellOf, signalOf, nextModeOf, rankOf, remembers}
+use Rattle.certificate.specs.Layout.{linksOf, capOf, safeOf, goalFor, entriesOf, modeOf, cellOf, signalOf, nextModeOf, rankOf, remembers}
 use Rattle.certificate.specs.Facts.{Readable}
 use Rattle.certificate.proofs.Tests.{and-both, both-and}
 use Rattle.certificate.proofs.Loops.{each-every}
@@ -25,22 +25,24 @@ use Rattle.grid.proofs.Intervals.{one-cell}
 use Rattle.grid.proofs.Successors.{steps-to-successor}
 use Rattle.judging.specs.Conditions.{EntryHolds}
 use Rattle.runs.specs.Fractions.{scaleOf}
-use Rattle.runs.specs.Runs.{RunState, Step, InForce, entryIn, hasEntry, commonScale, queuesOver, arrivalsOver, moved, stepped, Remembered, GoalMet, Safe, ProperStep}
+use Rattle.runs.specs.Runs.{RunState, Step, InForce, entryIn, hasEntry, commonScale, queuesOver, arrivalsOver, moved, stepped, Remembered, Safe, ProperStep}
+use Rattle.runs.specs.Goals.{MetFor}
 use Rattle.runs.proofs.Fractions.{scale-least, keeps-low, keeps-high}
 use Rattle.runs.proofs.Cells.{below-bound, same-cell}
 use Rattle.runs.proofs.Lookup.{finds-entry}
 
--- an entry in force at state r, whose rank is lower than that of entry e where that is above 0
+-- an entry in force at state r, in the next mode of entry e, whose rank is lower than that of entry e where that is above 0
 pub record Follower (s : List ℕ) (e : ℕ) (r : RunState) : Type 0 where
   pub scale : 1 ≤ r .scale
   pub entry : ℕ
   pub in-force : InForce s r entry
+  pub next-mode : r .mode ≡ nextModeOf s e
   pub lower : 0 < rankOf s e → rankOf s entry < rankOf s e
 
--- what holds wherever an entry is in force: no queue exceeds safe, rank 0 is a visit, and a step leads to a follower
+-- what holds wherever an entry is in force: no queue exceeds safe, rank 0 meets the goal of the mode held, and a step leads to a follower
 pub record Steady (s : List ℕ) : Type 0 where
   pub safe : (r : RunState) (e : ℕ) → InForce s r e → Safe s r
-  pub goal : (r : RunState) (e : ℕ) → InForce s r e → rankOf s e ≡ 0 → GoalMet s r
+  pub goal : (r : RunState) (e : ℕ) → InForce s r e → rankOf s e ≡ 0 → MetFor s (r .mode) r
   pub step : (r : RunState) (e : ℕ) (p : Step) → InForce s r e → 1 ≤ r .scale → Remembered s r → ProperStep s p → Follower s e (stepped s r p)
   pub memory : (r : RunState) (p : Step) → Remembered s r → Remembered s (stepped s r p)
 
@@ -148,6 +150,7 @@ module _ (s : List ℕ) (S : Screened s) (holds : (e : ℕ) → e < entriesOf s 
           scale = scale;
           entry = f;
           in-force = record { exists = lists .exists; cell = rw (lists .cell) cell; mode = lists .mode };
+          next-mode = refl;
           lower = successor .1 f lists;
         })
 
@@ -155,7 +158,7 @@ module _ (s : List ℕ) (S : Screened s) (holds : (e : ℕ) → e < entriesOf s 
   steady =
       record {
         safe = λ r e F. below-bound (F .cell) (safeOf s) (holds e (F .exists) .safe);
-        goal = λ r e F z. below-bound (F .cell) (goalOf s) (holds e (F .exists) .rank .0 z);
+        goal = λ r e F z. rw (← F .mode) (below-bound (F .cell) (goalFor s (modeOf s e)) (holds e (F .exists) .rank .0 z));
         step = follower;
         memory = remembers-on s (S .readable);
       }

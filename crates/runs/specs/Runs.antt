@@ -76,11 +76,11 @@ after s r (p ∷ ps) = after s (stepped s r p) ps
 abbrev pub momentOf : List ℕ → RunState → List Step → ℕ → RunState
 momentOf s r steps k = after s r (take k steps)
 
--- in H2 the signal last shown is the one that the mode held remembers
+-- in H2 and H3 the signal last shown is the one that the mode held remembers
 abbrev pub Remembered : List ℕ → RunState → Type 0
 Remembered s r = remembers s ≡ true → r .shown ≡ shownBefore s (r .mode)
 
--- the goal is met: no queue exceeds its link's goal; a visit is a moment at which it is
+-- HD and H2: the goal is met: no queue exceeds its link's goal; a visit is a moment at which it is
 abbrev pub GoalMet : List ℕ → RunState → Type 0
 GoalMet s r = (l : ℕ) → l < linksOf s → r .queue l ≤ r .scale * goalOf s l
 

@@ -1,3 +1,2 @@
-// Signals, and what modes remember of them: the fields of their records and their tests (refusal 6).
-pub mod modes;
+// Signals: the fields of their records and their tests (refusal 6).
 pub mod signals;

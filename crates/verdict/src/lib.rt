@@ -24,7 +24,6 @@ use entry_search::search;
 use entry_setup::LinkTables;
 use entry_setup::amounts;
 use entry_setup::entry;
-use entry_setup::standing;
 use rank_tables::index;
 use rank_tables::ranks;
 use reading::Layout;
@@ -71,7 +70,12 @@ fn judge_entry(
     let cell = entry::cell_edges(s, digits, edges, tables.links, c);
     let lower = cell.lower;
     let upper = cell.upper;
-    let f = standing::check_standing(s, tables.links, e, task.rank, &upper, count);
+    let at = entry_standing::Where {
+        links: tables.links,
+        modes_start: layout.modes_start,
+        entries_start: layout.entries_start,
+    };
+    let f = entry_standing::check_standing(s, at, e, task.rank, &upper, count);
     if f.number != 0 {
         return search::Searched {
             report: f,

@@ -31,10 +31,10 @@ pub enum Extent {
 pub fn bench(extent: Extent, mut show: impl FnMut(Row)) -> Result<(), String> {
     let plain = ["L", "typical", "largest"];
     let judged = ["L", "typical", "largest", "worst"];
-    let h2 = ["typical H2", "largest H2"];
-    let (judged, listed, h2) = match extent {
-        Extent::All => (&judged[..], &plain[..], &h2[..]),
-        Extent::Part => (&judged[..2], &plain[..2], &h2[..1]),
+    let started = ["typical H2", "typical H3", "largest H2", "largest H3"];
+    let (judged, listed, started) = match extent {
+        Extent::All => (&judged[..], &plain[..], &started[..]),
+        Extent::Part => (&judged[..2], &plain[..2], &started[..2]),
     };
     let mut time = |call: Call, names: &[&str]| -> Result<(), String> {
         for name in names {
@@ -45,7 +45,7 @@ pub fn bench(extent: Extent, mut show: impl FnMut(Row)) -> Result<(), String> {
     time(Call::Screen, &plain)?;
     for call in [Call::Judge, Call::Load] {
         time(call, judged)?;
-        time(call, h2)?;
+        time(call, started)?;
     }
     for name in ["L", "largest"] {
         time(Call::Query(Asked::First), &[name])?;

@@ -18,14 +18,17 @@ use second::{State, Verdict};
 #[derive(Clone, Copy, Debug, PartialEq, Eq)]
 pub enum Kinds {
     Only(Kind),
+    /// HD and H2.
     Both,
+    All,
 }
 
 impl Kinds {
     fn draw(self, numbers: &mut Numbers) -> Kind {
         match self {
             Kinds::Only(kind) => kind,
-            Kinds::Both => numbers.pick(&Kind::ALL),
+            Kinds::Both => numbers.pick(&[Kind::Hd, Kind::H2]),
+            Kinds::All => numbers.pick(&Kind::ALL),
         }
     }
 }
@@ -156,8 +159,13 @@ impl Run {
         if !is_damaged {
             self.is_accepted = verdict.is_accepted();
         }
-        if self.bytes.starts_with(Kind::H2.mark()) {
-            self.tally.h2.add(number, is_damaged && self.is_accepted);
+        for (kind, loads) in [
+            (Kind::H2, &mut self.tally.h2),
+            (Kind::H3, &mut self.tally.h3),
+        ] {
+            if self.bytes.starts_with(kind.mark()) {
+                loads.add(number, is_damaged && self.is_accepted);
+            }
         }
     }
 

@@ -1,7 +1,8 @@
 //! A plain checker made for speed, by a method of its own; its results are those of the second checker.
 //!
 //! Image ends before arrivals are taken once an entry, from the one corner that the signs of the flow rule name for
-//! each end; a link that was red under the signal that the entry's mode remembers is held to its start flow.
+//! each end; a link that was red under the signal that the entry's mode remembers is held to its start flow. Ranks are
+//! held against the goal of the links, or of the entry's mode where modes have goals.
 //! Successors are a range of intervals on each link; each of them is looked up in a table of ranks, a block of cells at
 //! a time. A link may exceed its cap where its high end does.
 

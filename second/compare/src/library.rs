@@ -11,7 +11,7 @@ use second::State;
 pub const LENGTH_SIZE: usize = 8;
 /// Bytes of a state: the stored array, its length (high byte first), the mode.
 pub const STATE_SIZE: usize = State::CAPACITY + LENGTH_SIZE + 1;
-const _: () = assert!(STATE_SIZE == 37_812);
+const _: () = assert!(STATE_SIZE == 37_948);
 /// Numbers of a report.
 pub const REPORT_SIZE: usize = 4;
 /// Numbers of a verdict.

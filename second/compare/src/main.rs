@@ -7,12 +7,13 @@ use second::certificate::Kind;
 use std::process::ExitCode;
 
 const USAGE: &str = "\
-usage: compare differential --seed S --loads N --queries M --polls P [--kind hd|h2|both]
+usage: compare differential --seed S --loads N --queries M --polls P [--kind hd|h2|h3|both|all]
        compare reading --all|--part
        compare bench [--part]
        compare once CALL CERTIFICATE [N]
            CALL: screen, judge, load, query-first, query-last, poll-first, poll-last, write, list
-           CERTIFICATE: L, typical, largest, worst, 'typical H2', 'largest H2'
+           CERTIFICATE: L, typical, largest, worst, 'typical H2', 'largest H2', 'typical H3', 'largest H3'
+both: HD and H2; all, which is also what is drawn without --kind: HD, H2 and H3.
 ";
 
 fn main() -> ExitCode {
@@ -51,9 +52,11 @@ fn plan(options: &[&str]) -> Option<Plan> {
     let (kinds, size) = match word("--kind") {
         Some(&"hd") => (Kinds::Only(Kind::Hd), 10),
         Some(&"h2") => (Kinds::Only(Kind::H2), 10),
+        Some(&"h3") => (Kinds::Only(Kind::H3), 10),
         Some(&"both") => (Kinds::Both, 10),
+        Some(&"all") => (Kinds::All, 10),
         Some(_) => return None,
-        None => (Kinds::Both, 8),
+        None => (Kinds::All, 8),
     };
     let plan = Plan {
         seed: number("--seed")?,

@@ -22,6 +22,9 @@ pub fn readings(extent: Extent) -> Result<u64, String> {
         samples::h2::listed(),
         samples::h2::typical(),
         samples::h2::largest(),
+        samples::h3::listed(),
+        samples::h3::typical(),
+        samples::h3::largest(),
     ] {
         let step = match extent {
             Extent::All => 1,

@@ -1,6 +1,7 @@
 //! Accepted certificates of known size.
 
 pub mod h2;
+pub mod h3;
 
 use crate::generate::{bytes::bytes_of, find_policy};
 use crate::numbers::Numbers;
@@ -22,6 +23,7 @@ pub fn listed() -> Vec<u8> {
         signals: vec![1],
         modes: 1,
         memory: Vec::new(),
+        goals: Vec::new(),
         cuts: vec![vec![5, 8]],
         arrivals: vec![arrivals(&[(0, 2)])],
         entries: (0..3).map(entry).collect(),
@@ -73,6 +75,7 @@ fn typical_roads() -> Certificate {
         signals: vec![0b1101, 0b1110, 0b1100, 0b1111],
         modes: 1,
         memory: Vec::new(),
+        goals: Vec::new(),
         cuts: vec![
             vec![8, 16, 24, 32],
             vec![8, 16, 24, 32],
@@ -121,6 +124,7 @@ fn largest_roads() -> Certificate {
         signals: (0..16).map(|signal: u8| signal.wrapping_mul(17)).collect(),
         modes: 1,
         memory: Vec::new(),
+        goals: Vec::new(),
         cuts: Vec::new(),
         arrivals: (0..8).map(|number| arrivals(&row(number))).collect(),
         entries: Vec::new(),
@@ -144,6 +148,7 @@ pub fn worst() -> Vec<u8> {
         signals: vec![0xFF],
         modes: 1,
         memory: Vec::new(),
+        goals: Vec::new(),
         cuts: (0..8).map(|l| cuts(if l < 4 { 4 } else { 2 })).collect(),
         arrivals: vec![arrivals(&[(0, 10_000); 8]); 8],
         entries: (0..4_096).map(|cell| entry_of(cell, 0)).collect(),

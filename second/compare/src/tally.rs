@@ -6,8 +6,8 @@ use std::fmt;
 #[derive(Clone, Debug, Default)]
 pub struct Numbered([u64; NUMBERS]);
 
-/// Result numbers: 0 to 23.
-const NUMBERS: usize = 24;
+/// Result numbers: 0 to 24.
+pub const NUMBERS: usize = 25;
 
 impl Numbered {
     pub fn add(&mut self, number: u32) {
@@ -36,17 +36,19 @@ impl fmt::Display for Numbered {
 }
 
 /// The refusals of a load, in the order of their tests.
-pub const LOAD_REFUSALS: [usize; 17] = [1, 2, 3, 4, 5, 6, 7, 8, 9, 22, 23, 10, 11, 12, 13, 14, 15];
+pub const LOAD_REFUSALS: [usize; 18] = [
+    1, 2, 3, 4, 5, 6, 7, 8, 9, 22, 23, 24, 10, 11, 12, 13, 14, 15,
+];
 
-/// Loads of bytes that open with H2.
+/// Loads of bytes that open with the mark of one kind.
 #[derive(Clone, Debug, Default)]
-pub struct H2Loads {
+pub struct KindLoads {
     pub results: Numbered,
     /// Refused ones that are a damaged copy of an accepted certificate.
     pub damaged: u64,
 }
 
-impl H2Loads {
+impl KindLoads {
     /// Takes a load by its result and by whether it is a damaged copy of an accepted certificate.
     pub fn add(&mut self, number: u32, is_damaged: bool) {
         self.results.add(number);
@@ -54,9 +56,8 @@ impl H2Loads {
     }
 }
 
-impl fmt::Display for H2Loads {
+impl fmt::Display for KindLoads {
     fn fmt(&self, out: &mut fmt::Formatter<'_>) -> fmt::Result {
-        writeln!(out, "H2 loads: {}", self.results.all())?;
         writeln!(out, "  {}", shown_share(&self.results))?;
         writeln!(
             out,
@@ -126,7 +127,8 @@ impl fmt::Display for Overflows {
 #[derive(Clone, Debug, Default)]
 pub struct Tally {
     pub loads: Numbered,
-    pub h2: H2Loads,
+    pub h2: KindLoads,
+    pub h3: KindLoads,
     pub overflows: Overflows,
     pub queries: Numbered,
     pub polls: Numbered,
@@ -139,7 +141,9 @@ impl fmt::Display for Tally {
         writeln!(out, "loads: {}", shown_share(&self.loads))?;
         writeln!(out, "  overflows: {}", self.overflows)?;
         write_refusals(out, &self.loads)?;
-        write!(out, "{}", self.h2)?;
+        for (kind, loads) in [("H2", &self.h2), ("H3", &self.h3)] {
+            write!(out, "{kind} loads: {}\n{loads}", loads.results.all())?;
+        }
         writeln!(out, "queries: {}", self.queries)?;
         writeln!(out, "polls: {}", self.polls)?;
         writeln!(out, "writes: {}", self.writes)?;

@@ -5,6 +5,7 @@ use compare::generate::{
 };
 use compare::numbers::Numbers;
 use compare::sides::state_bytes;
+use compare::tally::NUMBERS;
 use compare::{fast, peer, samples};
 use second::certificate::Kind;
 use second::conditions::read_sound;
@@ -36,9 +37,9 @@ fn lists(listing: impl Fn(&[u8], &mut [u8]) -> Option<usize>, bytes: &[u8], text
 }
 
 /// Generated certificates of a kind and two damaged copies of each: how often each number came for the copies.
-fn on_generated(kind: Kind) -> [u64; 24] {
+fn on_generated(kind: Kind) -> [u64; NUMBERS] {
     let (mut accepted, mut ranked) = (0, 0);
-    let mut refused = [0; 24];
+    let mut refused = [0; NUMBERS];
     for part in 0..1_000 {
         let mut numbers = Numbers::of(3, part);
         let drawn = certificate(&mut numbers, Size::Small, kind);
@@ -70,15 +71,22 @@ fn on_generated_h2_certificates() {
     assert!(often.iter().all(|&at| refused[at] > 15), "{refused:?}");
 }
 
-/// Missing names, wrong order and memories of other signals: the due refusal, and a state made by hand holds no
-/// certificate.
+#[test]
+fn on_generated_h3_certificates() {
+    let refused = on_generated(Kind::H3);
+    let often = [1, 2, 4, 6, 9, 13, 14, 15, 22, 23, 24];
+    assert!(often.iter().all(|&at| refused[at] > 15), "{refused:?}");
+}
+
+/// Missing names, wrong order, memories of other signals and other goal numbers: the due refusal, and a state made by
+/// hand holds no certificate.
 #[test]
 fn on_spoilt_entries() {
     for part in 0..200 {
         let mut numbers = Numbers::of(9, part);
-        let kind = Kind::ALL[part as usize % 2];
+        let kind = Kind::ALL[part as usize % 3];
         let drawn = certificate(&mut numbers, Size::Small, kind);
-        for way in Way::all(kind) {
+        for way in Way::all(&drawn) {
             let (bytes, due) = spoilt(&drawn, way, &mut numbers);
             assert_eq!(agrees(&bytes), Verdict::refused(due), "{way:?}");
             let mut own = State::by_hand(&bytes, bytes.len(), 0);
@@ -94,8 +102,8 @@ fn on_spoilt_entries() {
 
 #[test]
 fn on_large_certificates() {
-    for part in 0..4 {
-        let kind = Kind::ALL[part as usize % 2];
+    for part in 0..6 {
+        let kind = Kind::ALL[part as usize % 3];
         let drawn = certificate(&mut Numbers::of(4, part), Size::Large, kind);
         agrees(&bytes_of(&drawn));
     }
@@ -106,7 +114,11 @@ fn on_large_certificates() {
 fn on_small_changes() {
     let mut numbers = Numbers::of(5, 0);
     let drawn = Kind::ALL.map(|kind| bytes_of(&certificate(&mut numbers, Size::Small, kind)));
-    let listed = [samples::listed(), samples::h2::listed()];
+    let listed = [
+        samples::listed(),
+        samples::h2::listed(),
+        samples::h3::listed(),
+    ];
     for bytes in listed.into_iter().chain(drawn) {
         let bytes = &bytes[..bytes.len().min(400)];
         for at in 0..bytes.len() {
@@ -132,6 +144,22 @@ fn on_h2_samples() {
     assert_eq!(peer::judge(&largest), fast::judge(&largest));
     let longest = samples::h2::longest();
     assert_eq!(longest.len(), 37_663);
+    assert_eq!(fast::judge(&longest), Verdict::accepted(6_285_008, 4_096));
+    assert_eq!(peer::judge(&longest), fast::judge(&longest));
+}
+
+/// Sizes and verdicts of the H3 samples; the second checker is not asked for the last two.
+#[test]
+fn on_h3_samples() {
+    assert_eq!(agrees(&samples::h3::listed()), Verdict::accepted(11, 0));
+    let typical = samples::h3::typical();
+    assert_eq!(agrees(&typical), Verdict::accepted(90_175, 746));
+    assert_eq!(read_sound(&typical).unwrap().entries.len(), 3_750);
+    let largest = samples::h3::largest();
+    assert_eq!(fast::judge(&largest), Verdict::accepted(6_024_112, 3_971));
+    assert_eq!(peer::judge(&largest), fast::judge(&largest));
+    let longest = samples::h3::longest();
+    assert_eq!(longest.len(), 37_799);
     assert_eq!(fast::judge(&longest), Verdict::accepted(6_285_008, 4_096));
     assert_eq!(peer::judge(&longest), fast::judge(&longest));
 }
@@ -166,9 +194,11 @@ fn on_damaged_samples() {
         samples::worst(),
         samples::h2::typical(),
         samples::h2::largest(),
+        samples::h3::typical(),
+        samples::h3::largest(),
     ] {
         let read = read_sound(&bytes).unwrap();
-        let mut seen = [0; 16];
+        let mut seen = [0; NUMBERS];
         for _ in 0..20 {
             let mut copy = read.clone();
             let at = numbers.below(copy.entries.len());
@@ -211,7 +241,7 @@ fn on_polls() {
     let mut seen = [0; 22];
     for part in 0..400 {
         let mut numbers = Numbers::of(8, part);
-        let kind = Kind::ALL[part as usize % 2];
+        let kind = Kind::ALL[part as usize % 3];
         let drawn = certificate(&mut numbers, Size::Small, kind);
         for bytes in [bytes_of(&drawn), damaged(&drawn, &mut numbers)] {
             let mut own = any_state(&bytes, &mut numbers);

@@ -6,7 +6,7 @@ use compare::numbers::Numbers;
 use compare::readings::{readings, Extent};
 use compare::samples;
 use compare::sides::{screen, Agreed, Sides};
-use compare::tally::{Tally, LOAD_REFUSALS};
+use compare::tally::{KindLoads, Tally, LOAD_REFUSALS};
 use second::certificate::Kind;
 use second::conditions::read_sound;
 use second::{Certificate, Report, State, Verdict};
@@ -27,16 +27,18 @@ fn library_and_second_checker_agree() {
         loads: 1_500,
         queries: 6_000,
         polls: 6_000,
-        kinds: Kinds::Both,
+        kinds: Kinds::All,
     });
     assert!(tally.loads.of(0) * 10 > tally.loads.all() * 4, "{tally}");
     for number in LOAD_REFUSALS {
         assert!(tally.loads.of(number) > 0, "no {number}\n{tally}");
     }
-    for number in [9, 22, 23] {
+    for number in [9, 22, 23, 24] {
         assert!(tally.loads.of(number) > 20, "few {number}\n{tally}");
     }
-    half_h2(&tally);
+    for loads in [&tally.h2, &tally.h3] {
+        third_of(loads, &tally);
+    }
     let overflows = &tally.overflows;
     for kind in [overflows.none, overflows.some, overflows.all] {
         assert!(kind * 10 > tally.loads.of(0), "{tally}");
@@ -55,30 +57,46 @@ fn library_and_second_checker_agree() {
     assert!(tally.listings.of(0) > 100, "{tally}");
 }
 
-/// About half of the loads are of H2 certificates; most of those are accepted or damaged from accepted ones.
-fn half_h2(tally: &Tally) {
-    let (h2, all) = (&tally.h2, tally.loads.all());
-    let loads = h2.results.all();
-    assert!(loads * 10 > all * 4 && loads * 10 < all * 6, "{tally}");
-    assert!((h2.results.of(0) + h2.damaged) * 10 > loads * 8, "{tally}");
-    assert!(h2.results.of(0) * 10 > loads * 3, "{tally}");
+/// About a third of the loads are of this kind; most of those are accepted or damaged from accepted ones.
+fn third_of(loads: &KindLoads, tally: &Tally) {
+    let (results, all) = (&loads.results, tally.loads.all());
+    let share = results.all() * 100 / all;
+    assert!((25..=42).contains(&share), "{tally}");
+    let good = results.of(0) + loads.damaged;
+    assert!(good * 10 > results.all() * 8, "{tally}");
+    assert!(results.of(0) * 10 > results.all() * 3, "{tally}");
     for number in [1, 2, 4, 6, 9, 22, 23, 12, 13, 14, 15] {
-        assert!(h2.results.of(number) > 0, "no {number}\n{tally}");
+        assert!(results.of(number) > 0, "no {number}\n{tally}");
     }
 }
 
-/// H2 alone: every call is answered in every way on states that hold such certificates.
 #[test]
 fn h2_certificates_agree() {
+    let tally = of_kind(Kind::H2, 2);
+    let loads = tally.h2.results.all();
+    assert!(loads * 10 > tally.loads.all() * 9, "{tally}");
+}
+
+#[test]
+fn h3_certificates_agree() {
+    let tally = of_kind(Kind::H3, 20);
+    let results = &tally.h3.results;
+    assert!(results.all() * 10 > tally.loads.all() * 9, "{tally}");
+    assert!(results.of(0) * 10 > results.all() * 4, "{tally}");
+    for number in [6, 13, 24] {
+        assert!(results.of(number) > 10, "few {number}\n{tally}");
+    }
+}
+
+/// One kind alone: every call is answered in every way on states that hold such certificates.
+fn of_kind(kind: Kind, seed: u64) -> Tally {
     let tally = done(&Plan {
-        seed: 2,
+        seed,
         loads: 500,
         queries: 2_500,
         polls: 2_500,
-        kinds: Kinds::Only(Kind::H2),
+        kinds: Kinds::Only(kind),
     });
-    let h2 = &tally.h2;
-    assert!(h2.results.all() * 10 > tally.loads.all() * 9, "{tally}");
     for number in [0, 16, 18, 19] {
         assert!(tally.queries.of(number) > 50, "few {number}\n{tally}");
     }
@@ -89,17 +107,18 @@ fn h2_certificates_agree() {
         assert!(tally.writes.of(number) > 10, "few {number}\n{tally}");
     }
     assert!(tally.listings.of(0) > 50, "{tally}");
+    tally
 }
 
-/// Missing names, wrong order and memories of other signals in every way: 9, 22 or 23 as is due, and 18 of a state made
-/// by hand.
+/// Missing names, wrong order, memories of other signals and other goal numbers in every way: 9, 22, 23 or 24 as is due,
+/// and 18 of a state made by hand.
 #[test]
 fn spoilt_entries_agree() {
-    for part in 0..40 {
+    for part in 0..60 {
         let mut numbers = Numbers::of(10, part);
-        let kind = Kind::ALL[part as usize % 2];
+        let kind = Kind::ALL[part as usize % 3];
         let drawn = certificate(&mut numbers, Size::Small, kind);
-        for way in Way::all(kind) {
+        for way in Way::all(&drawn) {
             let (bytes, due) = spoilt(&drawn, way, &mut numbers);
             let told = refused_alike(&bytes, due, &drawn, &mut numbers);
             told.unwrap_or_else(|difference| panic!("{way:?} {difference:?}"));
@@ -129,8 +148,8 @@ fn refused_alike(
 /// The longest certificate fits the state: it is read, asked and written alike.
 #[test]
 fn the_longest_agrees() {
-    let longest = samples::h2::longest();
-    assert_eq!(longest.len(), 37_663);
+    let longest = samples::h3::longest();
+    assert_eq!(longest.len(), 37_799);
     let agreed = || -> Agreed<()> {
         assert_eq!(screen(&longest)?, Report::SUCCESS);
         let mut sides = Sides::of(State::by_hand(&longest, longest.len(), 0));

@@ -4,6 +4,7 @@
 use compare::generate::bytes::{bytes_of, links_place, modes_place};
 use compare::generate::{certificate, damaged, Size};
 use compare::numbers::Numbers;
+use compare::tally::NUMBERS;
 use second::certificate::{Certificate, Entry, Greens, Kind, Link};
 use second::conditions::{check_flows, check_pull_sums, read_sound};
 use second::grid::{cells, Cell};
@@ -194,7 +195,7 @@ fn read_without_memory(bytes: &[u8]) -> Result<Certificate, Report> {
 }
 
 fn without_memory(bytes: &[u8], right: Verdict) -> Verdict {
-    if right.report.number != 23 {
+    if right.report.number != 23 || !bytes.starts_with(b"H2") {
         return right;
     }
     match read_without_memory(bytes) {
@@ -262,7 +263,7 @@ fn generated_loads_tell_slips() {
 /// Damaged copies are refused at LK and MD records in every way, and change to HD in whole and in part.
 #[test]
 fn damage_reaches_links_and_modes() {
-    let (mut links, mut modes, mut hd) = ([0; 24], [0; 24], [0; 24]);
+    let (mut links, mut modes, mut hd) = ([0; NUMBERS], [0; NUMBERS], [0; NUMBERS]);
     for part in 0..600 {
         let mut numbers = Numbers::of(15, part);
         let drawn = certificate(&mut numbers, Size::Small, Kind::H2);

@@ -2,7 +2,8 @@
 
 use crate::certificate::Kind;
 use crate::text::{
-    bytes_of, records_of_line, Field, Record, Words, ENTRY, HEADER, LINK, MODE, START, TURN,
+    bytes_of, records_of_line, Field, ModeGoal, Record, Words, ENTRY, GOAL, GOALS, HEADER, LINK,
+    MODE, START, TURN,
 };
 
 /// A certificate as stored: records, or bytes once a change of bytes has been made.
@@ -85,13 +86,13 @@ fn set(records: &mut [Record], words: &mut Words) -> Result<(), String> {
         Record::Header { kind, counts } => set_header(words, kind, counts),
         Record::Link { values, start } => set_link(words, values, start),
         Record::Turn(values) => set_values(words, &TURN, values),
-        Record::Mode(values) => set_values(words, &MODE, values),
+        Record::Mode { values, goal } => set_mode(words, values, goal),
         Record::Entry(values) => set_values(words, &ENTRY, values),
         _ => Err("expected a record with named fields".to_string()),
     }
 }
 
-/// Counts by their names, and the kind as `kind HD` or `kind H2`.
+/// Counts by their names, and the kind as `kind HD`, `kind H2` or `kind H3`.
 fn set_header(
     words: &mut Words,
     kind: &mut Kind,
@@ -108,9 +109,7 @@ fn set_header(
 }
 
 fn kind_named(words: &mut Words) -> Result<Kind, String> {
-    words.parse("`HD` or `H2`", |word| {
-        Kind::ALL.into_iter().find(|kind| kind.name() == word)
-    })
+    words.parse("`HD`, `H2` or `H3`", Kind::named)
 }
 
 /// Fields of a link; it may have no start flow yet.
@@ -124,6 +123,26 @@ fn set_link(
         match LINK.get(at) {
             Some(field) => values[at] = field.take(words)?,
             None => *start = Some(START.take(words)?),
+        }
+        Ok(())
+    })
+}
+
+/// Fields of a mode; those of its goal only where it has one. Goals take the rest of the line.
+fn set_mode(
+    words: &mut Words,
+    values: &mut [u16; 1],
+    goal: &mut Option<ModeGoal>,
+) -> Result<(), String> {
+    let Some(ModeGoal { number, goals }) = goal else {
+        return set_values(words, &MODE, values);
+    };
+    let names = [&names(&MODE)[..], &[GOAL.name, GOALS.name]].concat();
+    set_named(words, &names, |words, at| {
+        match at.checked_sub(MODE.len()) {
+            None => values[at] = MODE[at].take(words)?,
+            Some(0) => *number = GOAL.take(words)?,
+            Some(_) => *goals = GOALS.take_all(words)?,
         }
         Ok(())
     })

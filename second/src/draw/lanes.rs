@@ -58,8 +58,14 @@ impl Lane {
     }
 }
 
-/// The lanes of all links but those taken.
-pub fn lanes(links: &[Link], order: &[u8], places: &[i32], taken: &[usize]) -> Vec<Lane> {
+/// The lanes of all links but those taken; their labels are wide.
+pub fn lanes(
+    links: &[Link],
+    labels: &[Label],
+    order: &[u8],
+    places: &[i32],
+    taken: &[usize],
+) -> Vec<Lane> {
     let place_of = |junction: u8| order.iter().position(|&j| j == junction).map(|i| places[i]);
     let mut lanes: Vec<Lane> = Vec::new();
     for (number, link) in links.iter().enumerate() {
@@ -73,7 +79,7 @@ pub fn lanes(links: &[Link], order: &[u8], places: &[i32], taken: &[usize]) -> V
             tail: place_of(link.tail),
             head: place_of(link.head).unwrap_or(LEFT),
             label: 0,
-            half_label: Label::wide(link).width() / 2 + 4,
+            half_label: labels[number].width() / 2 + 4,
         };
         lane.above = goes_above(&lane, &lanes);
         lane.put_label_in_the_middle();

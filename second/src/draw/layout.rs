@@ -6,7 +6,7 @@
 use super::lanes::{lanes, Lane};
 use super::order::junction_order;
 use super::style::{Style, LEFT, RIGHT};
-use crate::certificate::Link;
+use crate::certificate::{Certificate, Link};
 
 /// Radius of a junction.
 pub const RADIUS: i32 = 16;
@@ -15,33 +15,32 @@ const LANE: i32 = 50;
 const SHORT_LANE: i32 = 62;
 
 /// The label of a link: its lines above and below the arrow.
+#[derive(Clone)]
 pub struct Label {
     pub above: Vec<String>,
     pub below: Vec<String>,
 }
 
 impl Label {
-    /// One line above and one below.
-    pub fn wide(link: &Link) -> Label {
-        let Label { above, below } = Label::narrow(link);
-        Label {
-            above: vec![above.join(" · ")],
-            below: vec![below.join(" · ")],
-        }
-    }
-
-    /// One amount a line; a start flow stands behind the flow.
-    pub fn narrow(link: &Link) -> Label {
+    /// One amount a line; a start flow stands behind the flow. A goal that is not used is left out.
+    fn of(link: &Link, uses_goal: bool) -> Label {
         let mut above = vec![format!("cap {}", link.cap), format!("flow {}", link.flow)];
         above.extend(link.start.map(|start| format!("start {start}")));
+        let mut below = vec![format!("safe {}", link.safe)];
+        below.extend(uses_goal.then(|| format!("goal {}", link.goal)));
+        Label { above, below }
+    }
+
+    /// One line above and one below.
+    pub fn wide(&self) -> Label {
         Label {
-            above,
-            below: vec![format!("safe {}", link.safe), format!("goal {}", link.goal)],
+            above: vec![self.above.join(" · ")],
+            below: vec![self.below.join(" · ")],
         }
     }
 
     /// All lines on one side.
-    pub fn on_one_side(mut self, above: bool) -> Label {
+    fn on_one_side(mut self, above: bool) -> Label {
         self.above.append(&mut self.below);
         if !above {
             std::mem::swap(&mut self.above, &mut self.below);
@@ -74,33 +73,58 @@ pub struct Layout {
     /// Number and place of each junction.
     pub junctions: Vec<(u8, i32)>,
     pub straight: Vec<Straight>,
+    /// The label of each link, with one amount a line.
+    labels: Vec<Label>,
     /// Labels along the line have one amount a line.
-    pub narrow: bool,
+    narrow: bool,
     /// The most lines that such a label has on one side; 0 where no link runs along the line.
     lines: usize,
     pub lanes: Vec<Lane>,
 }
 
 impl Layout {
-    pub fn of(links: &[Link]) -> Layout {
+    pub fn of(certificate: &Certificate) -> Layout {
+        let links = &certificate.links;
+        let uses_goals = !certificate.kind.has_goals();
+        let labels: Vec<Label> = links.iter().map(|l| Label::of(l, uses_goals)).collect();
+        let wide: Vec<Label> = labels.iter().map(Label::wide).collect();
         let order = junction_order(links);
         let mut along = links_along(links, &order);
         let mut places = junction_places(&along);
-        let narrow = !labels_fit(links, &along, &places, Label::wide);
-        if narrow && !labels_fit(links, &along, &places, Label::narrow) {
+        let narrow = !labels_fit(&wide, &along, &places);
+        if narrow && !labels_fit(&labels, &along, &places) {
             along = vec![None; order.len()];
             places = junction_places(&along);
         }
         let straight = straight_links(&along, &places);
         let taken: Vec<usize> = straight.iter().map(|one| one.link).collect();
-        let label = if narrow { Label::narrow } else { Label::wide };
-        let lines = taken.iter().map(|&link| label(&links[link]).height());
+        let shown = if narrow { &labels } else { &wide };
+        let lines = taken.iter().map(|&link| shown[link].height());
         Layout {
             lines: lines.max().unwrap_or(0),
-            lanes: lanes(links, &order, &places, &taken),
+            lanes: lanes(links, &wide, &order, &places, &taken),
             junctions: order.into_iter().zip(places).collect(),
             straight,
+            labels,
             narrow,
+        }
+    }
+
+    /// The label of a link along the line.
+    pub fn straight_label(&self, straight: &Straight) -> Label {
+        let label = &self.labels[straight.link];
+        match self.narrow {
+            true => label.clone(),
+            false => label.wide(),
+        }
+    }
+
+    /// The label of a lane.
+    pub fn lane_label(&self, lane: &Lane) -> Label {
+        let label = self.labels[lane.link].wide();
+        match lane.is_short() {
+            true => label.on_one_side(lane.above),
+            false => label,
         }
     }
 
@@ -163,14 +187,9 @@ fn junction_places(along: &[Option<usize>]) -> Vec<i32> {
 }
 
 /// Do the labels of all links along the line fit between their junctions?
-fn labels_fit(
-    links: &[Link],
-    along: &[Option<usize>],
-    places: &[i32],
-    label: fn(&Link) -> Label,
-) -> bool {
+fn labels_fit(labels: &[Label], along: &[Option<usize>], places: &[i32]) -> bool {
     straight_links(along, places).iter().all(|straight| {
-        let width = label(&links[straight.link]).width();
+        let width = labels[straight.link].width();
         width <= straight.to - straight.from - 4
     })
 }

@@ -3,8 +3,8 @@
 use super::slice::Axis;
 use super::style::Style;
 use super::svg::{Anchor, Area, Svg};
-use crate::certificate::Link;
 
+#[derive(Clone)]
 pub struct Limit {
     is_safe: bool,
     /// A limit of the link whose queue grows upwards lies level, the other upright.
@@ -15,11 +15,10 @@ pub struct Limit {
 }
 
 /// Goal and safe of a link over a grid, set apart where they are the same.
-pub fn limits_of(axis: &Axis, link: &Link, level: bool, grid: Area) -> Vec<Limit> {
+pub fn limits_of(axis: &Axis, [goal, safe]: [u16; 2], level: bool, grid: Area) -> [Limit; 2] {
     let length = if level { grid.height } else { grid.width };
-    let goal = offset_of(axis, link.goal, length);
-    let safe = offset_of(axis, link.safe, length);
-    let apart = if goal == safe { 2 } else { 0 };
+    let [goal_at, safe_at] = [goal, safe].map(|queue| offset_of(axis, queue, length));
+    let apart = if goal_at == safe_at { 2 } else { 0 };
     let limit = |is_safe: bool, value: u16, offset: i32| Limit {
         is_safe,
         level,
@@ -30,9 +29,9 @@ pub fn limits_of(axis: &Axis, link: &Link, level: bool, grid: Area) -> Vec<Limit
             grid.x + offset
         },
     };
-    vec![
-        limit(true, link.safe, safe + apart),
-        limit(false, link.goal, goal - apart),
+    [
+        limit(true, safe, safe_at + apart),
+        limit(false, goal, goal_at - apart),
     ]
 }
 

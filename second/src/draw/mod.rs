@@ -16,7 +16,7 @@ mod svg;
 mod tables;
 mod verdict;
 
-use crate::certificate::{Certificate, Kind};
+use crate::certificate::Certificate;
 use crate::judging::judge;
 use crate::reading::read;
 use crate::report::Verdict;
@@ -27,11 +27,14 @@ use slice::{link_intervals, Slice};
 use style::{Style, LEFT, RIGHT};
 use svg::{Anchor, Svg};
 
-/// What start flows and modes are in an H2 certificate.
+/// What start flows and modes are where there are any, and goals of modes.
 const START_WORDS: &str = "Start is the most that a link sends in a green step after a red one.";
 const MEMORY_WORDS: &str =
     "Each mode remembers the signal shown before: a green link that was red in it sends at most \
     its start flow.";
+const GOAL_WORDS: &str =
+    "Each mode has a goal. The goals are to be met in turn by their numbers, and after the greatest comes 0 \
+    again: a step from rank 0 passes to the next number, and from any other rank it keeps the number.";
 
 /// The picture as SVG, and the verdict that it shows. The cells drawn are those of the two links named, else of the
 /// first two. Links that cannot be drawn are told as a fault; a certificate that cannot be read has nothing but words.
@@ -108,13 +111,13 @@ impl Page {
             "Circles are junctions, arrows links with their numbers. Links from the left edge come in from outside. \
              Amounts are in vehicles.",
         );
-        if certificate.kind == Kind::H2 {
+        if certificate.kind.has_starts() {
             self.paragraph(START_WORDS);
         }
         let report = self.verdict.report;
         let marked = (report.number == 10).then_some(report.b as usize);
         let top = self.bottom + 12;
-        self.bottom = network::network(&mut self.svg, &certificate.links, marked, top);
+        self.bottom = network::network(&mut self.svg, certificate, marked, top);
         let top = self.bottom + 16;
         self.bottom = tables::tables(&mut self.svg, certificate, report, top);
     }
@@ -122,8 +125,11 @@ impl Page {
     fn policy(&mut self, certificate: &Certificate, slice: &Slice) {
         self.heading("Policy");
         self.paragraph(&slice_words(certificate, slice));
-        if certificate.kind == Kind::H2 {
+        if certificate.kind.has_starts() {
             self.paragraph(MEMORY_WORDS);
+        }
+        if certificate.kind.has_goals() {
+            self.paragraph(GOAL_WORDS);
         }
         let report = self.verdict.report;
         let shades = Shades::of(certificate, slice);

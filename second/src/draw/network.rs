@@ -4,14 +4,14 @@ use super::lanes::Lane;
 use super::layout::{Label, Layout, RADIUS};
 use super::style::{Style, LEFT, RIGHT};
 use super::svg::{Anchor, Area, Heading, Svg};
-use crate::certificate::Link;
+use crate::certificate::Certificate;
 
 /// Rounding of bends.
 const BEND: i32 = 8;
 
 /// Draws the network from `top` on and tells where it ends. The marked link is the one that a refusal names.
-pub fn network(svg: &mut Svg, links: &[Link], marked: Option<usize>, top: i32) -> i32 {
-    let layout = Layout::of(links);
+pub fn network(svg: &mut Svg, drawn: &Certificate, marked: Option<usize>, top: i32) -> i32 {
+    let layout = Layout::of(drawn);
     let line = top + 10 + layout.reach(true);
     let bottom = line + layout.reach(false) + 10;
     svg.rect(
@@ -23,12 +23,11 @@ pub fn network(svg: &mut Svg, links: &[Link], marked: Option<usize>, top: i32) -
             height: bottom - top,
         },
     );
-    if links.iter().any(|link| link.tail == 0) {
+    if drawn.links.iter().any(|link| link.tail == 0) {
         svg.line("edge", (LEFT, top), (LEFT, bottom));
         svg.upward_text(Style::Head, (LEFT - 6, (top + bottom) / 2), "outside");
     }
     let picture = Picture {
-        links,
         layout,
         marked,
         line,
@@ -39,15 +38,14 @@ pub fn network(svg: &mut Svg, links: &[Link], marked: Option<usize>, top: i32) -
     bottom
 }
 
-struct Picture<'a> {
-    links: &'a [Link],
+struct Picture {
     layout: Layout,
     marked: Option<usize>,
     /// Height of the line of junctions.
     line: i32,
 }
 
-impl Picture<'_> {
+impl Picture {
     /// Classes of a link's line and tip.
     fn classes(&self, link: usize) -> [&'static str; 2] {
         if self.marked == Some(link) {
@@ -130,20 +128,12 @@ impl Picture<'_> {
 
     fn labels(&self, svg: &mut Svg) {
         for straight in &self.layout.straight {
-            let link = &self.links[straight.link];
-            let label = if self.layout.narrow {
-                Label::narrow(link)
-            } else {
-                Label::wide(link)
-            };
+            let label = self.layout.straight_label(straight);
             let middle = (straight.from + straight.to) / 2;
             self.label(svg, straight.link, &label, (middle, self.line));
         }
         for lane in &self.layout.lanes {
-            let mut label = Label::wide(&self.links[lane.link]);
-            if lane.is_short() {
-                label = label.on_one_side(lane.above);
-            }
+            let label = self.layout.lane_label(lane);
             let place = (lane.label, self.lane_height(lane));
             self.label(svg, lane.link, &label, place);
         }

@@ -29,13 +29,17 @@ impl Panel<'_> {
         self.cell_texts(svg);
     }
 
-    /// The mode, and the signal that it remembers.
+    /// The mode, the signal that it remembers, and the number of its goal.
     fn title(&self) -> String {
         let mode = self.mode;
-        match self.certificate.memory.get(mode) {
-            Some(signal) => format!("Mode {mode}, after signal {signal}"),
-            None => format!("Mode {mode}"),
+        let mut title = format!("Mode {mode}");
+        if let Some(signal) = self.certificate.memory.get(mode) {
+            title += &format!(", after signal {signal}");
         }
+        if let Some(goal) = self.certificate.goals.get(mode) {
+            title += &format!(", goal {}", goal.number);
+        }
+        title
     }
 
     /// The entry of a cell in this mode.
@@ -108,14 +112,17 @@ impl Panel<'_> {
         }
     }
 
-    /// Safe and goal of the links on the axes.
+    /// Safe and the mode's goal for the links on the axes.
     fn limits(&self) -> Vec<Limit> {
         let grid = self.panels.grid(self.mode);
-        let links = &self.certificate.links;
-        let across = &self.slice.across;
-        let mut limits = limits_of(across, &links[across.link], false, grid);
+        let of = |axis: &Axis, level: bool| {
+            let goal = self.certificate.goal(self.mode, axis.link);
+            let safe = self.certificate.links[axis.link].safe;
+            limits_of(axis, [goal, safe], level, grid)
+        };
+        let mut limits = of(&self.slice.across, false).to_vec();
         if let Some(up) = &self.slice.up {
-            limits.extend(limits_of(up, &links[up.link], true, grid));
+            limits.extend(of(up, true));
         }
         limits
     }

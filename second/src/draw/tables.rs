@@ -1,8 +1,8 @@
-//! Turns, signals and arrival boxes as small tables.
+//! Turns, signals, arrival boxes and goals as small tables.
 
 use super::style::{Style, LEFT, RIGHT};
 use super::svg::{Anchor, Svg};
-use crate::certificate::Certificate;
+use crate::certificate::{Certificate, Goal};
 use crate::report::Report;
 use crate::text::green_links;
 
@@ -23,11 +23,14 @@ struct Table {
 
 /// Draws all tables from `top` on and tells where they end.
 pub fn tables(svg: &mut Svg, certificate: &Certificate, report: Report, top: i32) -> i32 {
-    let all = [
+    let mut all = vec![
         turns(certificate, report),
         signals(certificate, report),
         arrivals(certificate),
     ];
+    if certificate.kind.has_goals() {
+        all.push(goals(certificate));
+    }
     let (mut x, mut y, mut bottom) = (LEFT, top, top);
     for table in all {
         if x > LEFT && x + table.width() > RIGHT {
@@ -42,6 +45,13 @@ pub fn tables(svg: &mut Svg, certificate: &Certificate, report: Report, top: i32
 
 fn words<const N: usize>(words: [&str; N]) -> Vec<String> {
     words.iter().map(|word| word.to_string()).collect()
+}
+
+/// These heads, and then one a link.
+fn heads_by_link<const N: usize>(first: [&str; N], certificate: &Certificate) -> Vec<String> {
+    let mut heads = words(first);
+    heads.extend((0..certificate.links.len()).map(|link| format!("link {link}")));
+    heads
 }
 
 /// The place that a refusal with this number names.
@@ -76,8 +86,6 @@ fn signals(certificate: &Certificate, report: Report) -> Table {
 }
 
 fn arrivals(certificate: &Certificate) -> Table {
-    let mut heads = words(["box"]);
-    heads.extend((0..certificate.links.len()).map(|link| format!("link {link}")));
     let rows = certificate
         .arrivals
         .iter()
@@ -89,7 +97,28 @@ fn arrivals(certificate: &Certificate) -> Table {
         });
     Table {
         title: "Arrivals in a step",
-        heads,
+        heads: heads_by_link(["box"], certificate),
+        rows: rows.collect(),
+        marked: None,
+    }
+}
+
+/// The goals by number, each with the modes that have it.
+fn goals(certificate: &Certificate) -> Table {
+    let goals = &certificate.goals;
+    let mut used: Vec<&Goal> = goals.iter().collect();
+    used.sort_by_key(|goal| goal.number);
+    used.dedup();
+    let rows = used.into_iter().map(|goal| {
+        let modes = (0..goals.len()).filter(|&mode| goals[mode] == *goal);
+        let modes: Vec<String> = modes.map(|mode| mode.to_string()).collect();
+        let mut row = vec![goal.number.to_string(), modes.join(" ")];
+        row.extend(goal.amounts.iter().map(u16::to_string));
+        row
+    });
+    Table {
+        title: "Goals in turn",
+        heads: heads_by_link(["goal", "modes"], certificate),
         rows: rows.collect(),
         marked: None,
     }

@@ -2,7 +2,7 @@
 
 use super::slice::{link_intervals, Slice};
 use super::step::{refused_entry, refused_successor, Place};
-use crate::certificate::{Certificate, Entry, Link};
+use crate::certificate::{Certificate, Entry, Kind};
 use crate::grid::Interval;
 use crate::listing::accepted;
 use crate::report::{Report, Verdict};
@@ -19,14 +19,30 @@ pub fn headline(verdict: Verdict) -> String {
 
 /// The first line for bytes that cannot be read. Their mark at place A tells apart records that share a number.
 pub fn unread_headline(report: Report, bytes: &[u8]) -> String {
+    let opens = |kind: &Kind| bytes.starts_with(kind.mark());
+    let kind = Kind::ALL.into_iter().find(opens).unwrap_or(Kind::Hd);
     let record = &bytes[report.a as usize..];
-    if report.number == 3 && record.starts_with(b"H2") {
-        return refused(report, "a count of the header (H2) is out of bounds");
+    match report.number {
+        3 => {
+            let name = kind.name();
+            refused(
+                report,
+                &format!("a count of the header ({name}) is out of bounds"),
+            )
+        }
+        6 if record.starts_with(b"MD") => refused(report, mode_reason(kind)),
+        number => refused(report, reason(number)),
     }
-    if report.number == 6 && record.starts_with(b"MD") {
-        return refused(report, "a mode (MD) names a missing signal");
+}
+
+/// What is wrong with a mode.
+fn mode_reason(kind: Kind) -> &'static str {
+    match kind.has_goals() {
+        true => {
+            "a mode (MD) names a missing signal, or its goal is out of bounds or does not go with the others"
+        }
+        false => "a mode (MD) names a missing signal",
     }
-    refused(report, reason(report.number))
 }
 
 fn refused(report: Report, reason: &str) -> String {
@@ -40,7 +56,6 @@ fn reason(number: u32) -> &'static str {
     match number {
         1 => "fewer bytes than the due record or its mark needs",
         2 => "wrong mark, or a byte after the end",
-        3 => "a count of the header (HD) is out of bounds",
         4 => "a field of a link (LK) is out of bounds",
         5 => "a field of a turn (TN) is out of bounds",
         6 => "a signal (SG) has a green link that is not there",
@@ -55,11 +70,12 @@ fn reason(number: u32) -> &'static str {
         15 => "successor's rank not lower",
         22 => "an entry (EN) is not above the one before by cell and mode",
         23 => "an entry's (EN) next mode remembers another signal than the entry's",
+        24 => "an entry's (EN) next mode has another goal number than its rank asks for",
         _ => "refused",
     }
 }
 
-/// What the places of a refusal of 1 to 9, 22 or 23 mean.
+/// What the places of a refusal of 1 to 9 or 22 to 24 mean.
 pub fn reading_details(report: Report) -> Vec<String> {
     let what = match report.number {
         1 => "the record that is due starts",
@@ -142,9 +158,13 @@ fn entry_details(certificate: &Certificate, slice: &Slice, report: Report) -> Ve
         outline(slice, place, "solid outline")
     )];
     match report.number {
-        12 => lines.push(above(certificate, place, "safe", |link| link.safe)),
+        12 => {
+            let safe = |link: usize| certificate.links[link].safe;
+            lines.push(above(certificate, place, "safe", safe));
+        }
         13 if entry.rank == 0 => {
-            let over = above(certificate, place, "goal", |link| link.goal);
+            let goal = |link| certificate.goal(place.mode, link);
+            let over = above(certificate, place, "goal", goal);
             lines.push(format!("Its rank is 0, but the goal is not met. {over}"));
         }
         13 => {
@@ -177,19 +197,18 @@ fn listed(certificate: &Certificate, entry: &Entry, successor: Place) -> String 
     }
 }
 
-/// Which of the cell's upper edges exceed a limit of their links.
-fn above(certificate: &Certificate, place: Place, name: &str, limit: fn(&Link) -> u16) -> String {
+/// Which of the cell's upper edges exceed a limit, which is told by link.
+fn above(
+    certificate: &Certificate,
+    place: Place,
+    name: &str,
+    limit: impl Fn(usize) -> u16,
+) -> String {
     let edges = cell_intervals(certificate, place.cell);
-    let over = edges.iter().zip(&certificate.links).enumerate();
-    let words: Vec<String> = over
-        .filter(|(_, (interval, link))| interval.high > limit(link))
-        .map(|(number, (interval, link))| {
-            format!(
-                "link {number}: {} above {name} {}",
-                interval.high,
-                limit(link)
-            )
-        })
+    let uppers = edges.iter().map(|interval| interval.high).enumerate();
+    let words: Vec<String> = uppers
+        .filter(|&(link, upper)| upper > limit(link))
+        .map(|(link, upper)| format!("link {link}: {upper} above {name} {}", limit(link)))
         .collect();
     format!("Upper edges over {name}: {}.", words.join(", "))
 }

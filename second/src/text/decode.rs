@@ -1,7 +1,7 @@
 //! Bytes to text.
 
 use super::line::green_links;
-use crate::certificate::{Certificate, Kind, Link};
+use crate::certificate::{Certificate, Goal, Kind, Link};
 use crate::reading::read;
 use crate::report::Report;
 
@@ -14,7 +14,7 @@ pub fn decode(bytes: &[u8]) -> Result<String, Report> {
     Ok(lines.join("\n"))
 }
 
-/// The header, links, turns, signals and, in an H2 certificate, modes.
+/// The header, links, turns, signals and, but in an HD certificate, modes.
 fn network_lines(certificate: &Certificate) -> Vec<String> {
     let mut lines = vec![header_line(certificate)];
     lines.extend(certificate.links.iter().map(link_line));
@@ -27,16 +27,26 @@ fn network_lines(certificate: &Certificate) -> Vec<String> {
     for &green in &certificate.signals {
         lines.push(format!("signal green {}", green_links(green)));
     }
-    for signal in &certificate.memory {
-        lines.push(format!("mode signal {signal}"));
+    for (mode, signal) in certificate.memory.iter().enumerate() {
+        let line = format!("mode signal {signal}");
+        lines.push(match certificate.goals.get(mode) {
+            Some(goal) => goal_line(line, goal),
+            None => line,
+        });
     }
     lines
 }
 
+/// The line of a mode with its goal.
+fn goal_line(line: String, Goal { number, amounts }: &Goal) -> String {
+    let first = format!("{line} goal {number} goals");
+    line_of(&first, amounts.iter().map(u16::to_string))
+}
+
 fn header_line(certificate: &Certificate) -> String {
     let kind = match certificate.kind {
-        Kind::Hd => "",
-        Kind::H2 => "kind H2 ",
+        Kind::Hd => String::new(),
+        kind => format!("kind {} ", kind.name()),
     };
     format!(
         "header {kind}links {} turns {} signals {} modes {} arrivals {} entries {}",
@@ -82,7 +92,7 @@ fn policy_lines(certificate: &Certificate) -> Vec<String> {
     lines
 }
 
-/// A first word and the words after it.
+/// How a line begins, and the words after it.
 fn line_of(first: &str, words: impl Iterator<Item = String>) -> String {
     words.fold(first.to_string(), |line, word| line + " " + &word)
 }

@@ -44,6 +44,13 @@ pub const TURN: [Field; 4] = [byte("from"), byte("to"), byte("share"), wide("pul
 
 pub const MODE: [Field; 1] = [byte("signal")];
 
+/// A mode may end with its goal: its number, and any number of amounts.
+pub const GOAL: Field = byte("goal");
+pub const GOALS: Field = wide("goals");
+
+/// One cut of a grid, which has no name of its own.
+pub const CUT: Field = wide("a cut");
+
 pub const ENTRY: [Field; 5] = [
     wide("cell"),
     byte("mode"),
@@ -56,6 +63,15 @@ impl Field {
     /// Takes its number.
     pub fn take(&self, words: &mut Words) -> Result<u16, String> {
         Ok(words.number(self.name, self.most.into())? as u16)
+    }
+
+    /// Takes numbers to the end of the line, none of them too.
+    pub fn take_all(&self, words: &mut Words) -> Result<Vec<u16>, String> {
+        let mut values = Vec::new();
+        while words.peek().is_some() {
+            values.push(self.take(words)?);
+        }
+        Ok(values)
     }
 
     /// Adds the value's bytes, high byte first.

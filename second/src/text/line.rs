@@ -1,7 +1,7 @@
 //! Reading one line of the text form.
 
-use super::field::{Field, ENTRY, HEADER, LINK, MODE, START, TURN};
-use super::record::Record;
+use super::field::{Field, CUT, ENTRY, GOAL, GOALS, HEADER, LINK, MODE, START, TURN};
+use super::record::{ModeGoal, Record};
 use super::words::{decimal, Words};
 use crate::certificate::{is_green, Kind};
 
@@ -17,7 +17,7 @@ pub fn records_of_line(words: &mut Words) -> Result<Vec<Record>, String> {
         "link" => vec![link(words)?],
         "turn" => vec![Record::Turn(named_values(words, &TURN)?)],
         "signal" => vec![Record::Signal(green_byte(words)?)],
-        "mode" => vec![Record::Mode(named_values(words, &MODE)?)],
+        "mode" => vec![mode(words)?],
         "grid" => vec![grid(words)?],
         "arrivals" => vec![Record::Arrivals(arrival_pairs(words)?)],
         "entry" => entries(words)?,
@@ -33,8 +33,9 @@ pub fn records_of_line(words: &mut Words) -> Result<Vec<Record>, String> {
 fn header(words: &mut Words) -> Result<Record, String> {
     let mut kind = Kind::Hd;
     if words.takes("kind") {
-        kind = Kind::H2;
-        words.must_take(kind.name())?;
+        kind = words.parse("`H2` or `H3`", |word| {
+            Kind::named(word).filter(|&kind| kind != Kind::Hd)
+        })?;
     }
     let mut counts = [None; 6];
     for (count, field) in counts.iter_mut().zip(&HEADER) {
@@ -44,7 +45,7 @@ fn header(words: &mut Words) -> Result<Record, String> {
     }
     if words.peek().is_some() {
         return words.wrong(
-            "`kind H2`, `links`, `turns`, `signals`, `modes`, `arrivals` and `entries`, \
+            "`kind H2` or `kind H3`, `links`, `turns`, `signals`, `modes`, `arrivals` and `entries`, \
              each at most once and in this order",
         );
     }
@@ -59,6 +60,19 @@ fn link(words: &mut Words) -> Result<Record, String> {
         start = Some(START.take(words)?);
     }
     Ok(Record::Link { values, start })
+}
+
+/// A mode, with or without its goal.
+fn mode(words: &mut Words) -> Result<Record, String> {
+    let values = named_values(words, &MODE)?;
+    let mut goal = None;
+    if words.takes(GOAL.name) {
+        let number = GOAL.take(words)?;
+        words.must_take(GOALS.name)?;
+        let goals = GOALS.take_all(words)?;
+        goal = Some(ModeGoal { number, goals });
+    }
+    Ok(Record::Mode { values, goal })
 }
 
 /// Every field with its name, in order.
@@ -107,22 +121,14 @@ fn grid(words: &mut Words) -> Result<Record, String> {
     if words.takes("count") {
         let count = words.number("the interval count", 255)? as u8;
         words.must_take("cuts")?;
-        let cuts = cuts(words)?;
+        let cuts = CUT.take_all(words)?;
         return Ok(Record::Grid { count, cuts });
     }
-    let cuts = cuts(words)?;
+    let cuts = CUT.take_all(words)?;
     match u8::try_from(cuts.len() + 1) {
         Ok(count) => Ok(Record::Grid { count, cuts }),
         Err(_) => Err(format!("expected at most 254 cuts, found {}", cuts.len())),
     }
-}
-
-fn cuts(words: &mut Words) -> Result<Vec<u16>, String> {
-    let mut cuts = Vec::new();
-    while words.peek().is_some() {
-        cuts.push(words.number("a cut", WIDE)? as u16);
-    }
-    Ok(cuts)
 }
 
 fn arrival_pairs(words: &mut Words) -> Result<Vec<[u16; 2]>, String> {

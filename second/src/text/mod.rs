@@ -9,9 +9,9 @@ mod words;
 
 pub use decode::decode;
 pub use encode::{bytes_of, encode, records_of};
-pub use field::{Field, ENTRY, HEADER, LINK, MODE, START, TURN};
+pub use field::{Field, ENTRY, GOAL, GOALS, HEADER, LINK, MODE, START, TURN};
 pub use line::{green_links, records_of_line};
-pub use record::Record;
+pub use record::{ModeGoal, Record};
 pub use words::{numbered_lines, Words};
 
 use std::fmt;

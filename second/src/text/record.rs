@@ -1,6 +1,6 @@
 //! One record as a line writes it.
 
-use super::field::{Field, ENTRY, HEADER, LINK, MODE, START, TURN};
+use super::field::{Field, ENTRY, GOAL, GOALS, HEADER, LINK, MODE, START, TURN};
 use crate::certificate::Kind;
 
 /// Numbers fit their fields; nothing else is known of them.
@@ -18,7 +18,11 @@ pub enum Record {
     },
     Turn([u16; 4]),
     Signal(u8),
-    Mode([u16; 1]),
+    /// A goal that is not given is left out.
+    Mode {
+        values: [u16; 1],
+        goal: Option<ModeGoal>,
+    },
     Grid {
         count: u8,
         cuts: Vec<u16>,
@@ -31,6 +35,20 @@ pub enum Record {
     Bytes(Vec<u8>),
 }
 
+/// The goal of a mode, of any length.
+#[derive(Clone, Debug, PartialEq, Eq)]
+pub struct ModeGoal {
+    pub number: u16,
+    pub goals: Vec<u16>,
+}
+
+impl ModeGoal {
+    fn put(&self, bytes: &mut Vec<u8>) {
+        GOAL.put(self.number, bytes);
+        self.goals.iter().for_each(|&goal| GOALS.put(goal, bytes));
+    }
+}
+
 impl Record {
     /// The first word of its line.
     pub fn kind(&self) -> &'static str {
@@ -39,7 +57,7 @@ impl Record {
             Record::Link { .. } => "link",
             Record::Turn(_) => "turn",
             Record::Signal(_) => "signal",
-            Record::Mode(_) => "mode",
+            Record::Mode { .. } => "mode",
             Record::Grid { .. } => "grid",
             Record::Arrivals(_) => "arrivals",
             Record::Entry(_) => "entry",
@@ -58,7 +76,10 @@ impl Record {
             }
             Record::Turn(values) => put_fields(b"TN", &TURN, values, bytes),
             Record::Signal(green) => bytes.extend([b'S', b'G', *green]),
-            Record::Mode(values) => put_fields(b"MD", &MODE, values, bytes),
+            Record::Mode { values, goal } => {
+                put_fields(b"MD", &MODE, values, bytes);
+                goal.iter().for_each(|goal| goal.put(bytes));
+            }
             Record::Grid { count, cuts } => {
                 bytes.extend([b'G', b'R', *count]);
                 cuts.iter().for_each(|cut| bytes.extend(cut.to_be_bytes()));

@@ -1,6 +1,7 @@
 //! Large certificates.
 
-use super::bytes;
+use super::{bytes, header_of};
+use second::certificate::Kind;
 
 /// How many intervals each link has, and what comes of it.
 pub struct Large {
@@ -20,13 +21,25 @@ impl Large {
 
     /// The same as H2. Mode m remembers signal 2 × m + 1; an entry has the signal that its next mode remembers.
     pub fn start_bytes(&self) -> Vec<u8> {
+        self.remembering(Kind::H2, |_| String::new())
+    }
+
+    /// The same as H3. Mode m has goal m, whose amounts are those of LK; ranks above 0 ask for a single mode.
+    pub fn goal_bytes(&self) -> Vec<u8> {
+        let goals = " 10000".repeat(8);
+        self.remembering(Kind::H3, |mode| format!(" goal {mode} goals{goals}"))
+    }
+
+    /// As a kind that has start flows; `goal` tells what follows in the line of a mode.
+    fn remembering(&self, kind: Kind, goal: impl Fn(usize) -> String) -> Vec<u8> {
         let remembered = |mode: usize| 2 * mode + 1;
-        let mut text = network().replace("goal 10000\n", "goal 10000 start 500\n");
+        let mut text = header_of(kind);
+        text += &network().replace("goal 10000\n", "goal 10000 start 500\n");
         for mode in 0..self.modes {
-            text += &format!("mode signal {}\n", remembered(mode));
+            text += &format!("mode signal {}{}\n", remembered(mode), goal(mode));
         }
         let signal = |_, mode: usize| remembered((mode + 1) % self.modes);
-        bytes(&("header kind H2\n".to_string() + &text + &self.policy(signal)))
+        bytes(&(text + &self.policy(signal)))
     }
 
     /// Grid, arrival boxes, entries and end; `signal` tells an entry's by cell and mode.

@@ -2,13 +2,17 @@
 #![allow(dead_code)]
 
 pub mod folder;
+pub mod goals;
 pub mod large;
 pub mod program;
+pub mod run;
 
+use second::certificate::Kind;
 use second::conditions::read_sound;
 use second::flow::Amounts;
+use second::reading::read;
 use second::text::encode;
-use second::Certificate;
+use second::{judge, Certificate, Report, Verdict};
 
 /// Document 01's L, byte for byte.
 pub const L: [u8; 66] = [
@@ -93,9 +97,24 @@ pub fn bytes(text: &str) -> Vec<u8> {
     encode(text).unwrap_or_else(|fault| panic!("line {fault}"))
 }
 
+/// The header line that a kind needs.
+pub fn header_of(kind: Kind) -> String {
+    match kind {
+        Kind::Hd => String::new(),
+        kind => format!("header kind {}\n", kind.name()),
+    }
+}
+
 /// A certificate that passes every test before 12.
 pub fn sound(text: &str) -> Certificate {
     read_sound(&bytes(text)).unwrap_or_else(|refusal| panic!("{refusal}"))
+}
+
+/// The bytes are refused in reading, with this number and place A.
+pub fn refused(bytes: &[u8], number: u32, a: usize) {
+    let report = Report::at(number, a);
+    assert_eq!(read(bytes), Err(report), "{bytes:02X?}");
+    assert_eq!(judge(bytes), Verdict::refused(report), "{bytes:02X?}");
 }
 
 /// Amounts by link, 0 behind the given ones.

@@ -1,6 +1,6 @@
 -- `reading::check_network` meets its contract. Assumes nothing.
 use mathlib.Core.Path.{_≡_}
-use Rattle.certificate.specs.Reading.{linksFault, turnsFault, signalsFault, modesFault}
+use Rattle.certificate.specs.Reading.{linksFault, turnsFault, signalsFault}
 use Rattle.reading.specs.ReadingResults.{networkFault}
 use Rattle.octets.proofs.Cases.{first, second}
 use native.Mathlib.Omega.{arith}
@@ -54,25 +54,18 @@ returns-3 c =
     second _ _ _ _ (links-said (turn .before .before .before .before)) (turn .before .before .if1 .left)
     (second _ _ _ _ (turns-said turn) (c .before .before .before .before .if2 .left) (first _ _ _ (signals-said (c .before .before)) (c .if3 .taken)))
 
-modes-of-requires : tie.Need-modes-of-requires
-modes-of-requires c κs = search needs
-
-records-of-requires : tie.Need-records-of-requires
-records-of-requires c κs = search needs
-
 check-modes-requires : tie.Need-check-modes-requires
 check-modes-requires c κs =
-    let signal = c .before .before .before .before in
-    let given = signal .before .before .before .before .before .before .before .before .before .before .before .pre .1 in
-    (search needs, omega (arith, given .modes-most), given .modes-is, signal .before .signals-of .ensures .0)
+    let given = c .before .before .before .before .before .before .before .before .before .before .before .before .before .pre .1 in
+    (omega (arith, given .modes-most), given .modes-is)
 
 returns-4 : tie.Need-returns-4
-unfolding networkFault modesFault
+unfolding networkFault
 returns-4 c =
-    let signal = c .before .before .before .before .before in
+    let signal = c .before .before .before in
     let turn = signal .before .before .before .before in
     second _ _ _ _ (links-said (turn .before .before .before .before)) (turn .before .before .if1 .left)
-    (second _ _ _ _ (turns-said turn) (signal .before .before .if2 .left) (second _ _ _ _ (signals-said signal) (c .before .before .before .if3 .left) (rw (← c .before .records-of .ensures .0) (c .check-modes .ensures))))
+    (second _ _ _ _ (turns-said turn) (signal .before .before .if2 .left) (second _ _ _ _ (signals-said signal) (c .before .if3 .left) (c .check-modes .ensures)))
 
 pub check-network-spec : {M : Type 1} → statement M
 check-network-spec =
@@ -87,7 +80,5 @@ check-network-spec =
     signals-of-requires
     check-signals-requires
     returns-3
-    modes-of-requires
-    records-of-requires
     check-modes-requires
     returns-4)

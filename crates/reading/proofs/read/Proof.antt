@@ -18,7 +18,7 @@ returns c =
     refused-as (c .refused .ensures) bad (first _ _ _ (c .before .before .before .check-header .ensures) bad ∙ in-stages _)
 
 starts-of-requires : tie.Need-starts-of-requires
-starts-of-requires c κs = search needs
+starts-of-requires c κs = header-facts _ (c .before .before .check-header .ensures) (c .if1 .left)
 
 check-network-requires : tie.Need-check-network-requires
 check-network-requires c κs = (header-facts _ (c .before .before .before .check-header .ensures) (c .before .if1 .left), c .starts-of .ensures)

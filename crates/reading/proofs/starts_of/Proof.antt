@@ -1,5 +1,6 @@
 -- `reading::starts_of` meets its contract. Assumes nothing.
-use Rattle.reading.proofs.Stages.{starts-are}
+use Rattle.reading.proofs.Stages.{modes-begin, starts-are}
+use native.Mathlib.Omega.{arith}
 use borrow.Author.Needs.{needs}
 use Rattle.reading.proofs.starts_of.Statement.{statement}
 use Rattle.reading.proofs.starts_of.Tie as tie
@@ -28,6 +29,15 @@ modes-of-requires c κs = search needs
 records-of-requires : tie.Need-records-of-requires
 records-of-requires c κs = search needs
 
+place-of-requires : tie.Need-place-of-requires
+place-of-requires c κs =
+    let signal = c .before .before in
+    let turn = signal .before .before in
+    let link = turn .before .before in (
+      omega (arith, signal .signal-at .ensures, signal .before .signals-of .ensures, turn .turn-at .ensures, turn .before .turns-of .ensures, link .link-at .ensures),
+      modes-begin _ (link .before .links-of .ensures .0) (turn .before .turns-of .ensures .0) (signal .before .signals-of .ensures .0) (link .link-at .ensures .0) (turn .turn-at .ensures .0) (signal .signal-at .ensures .0),
+    )
+
 mode-at-requires : tie.Need-mode-at-requires
 mode-at-requires c κs = search needs
 
@@ -46,5 +56,6 @@ starts-of-spec =
     signal-at-requires
     modes-of-requires
     records-of-requires
+    place-of-requires
     mode-at-requires
     returns)

@@ -1,7 +1,7 @@
 -- `verdict::judge_entry` meets its contract. Assumes nothing.
 use native.Mathlib.Omega.{arith}
 use Rattle.verdict.proofs.Chaining.{not-standing, searched}
-use Rattle.entry_setup.proofs.EdgeLimits.{standing-count}
+use Rattle.entry_standing.proofs.EdgeLimits.{standing-count}
 use borrow.Author.Needs.{needs}
 use Rattle.verdict.proofs.judge_entry.Statement.{statement}
 use Rattle.verdict.proofs.judge_entry.Tie as tie
@@ -23,8 +23,14 @@ check-standing-requires c κs = let p = c .before .before .before .before .befor
     let T = p .1 in
     let K = c .before .before .before .before .before .task-of .ensures in
     let R = T .screened .readable in (
-      omega (arith, T .grid .link, R .header .links-most),
-      T .grid .link,
+      record {
+        links-are = T .grid .link;
+        links-most = omega (arith, T .grid .link, R .header .links-most);
+        modes-is = p .0 .modes-start-is;
+        modes-most = p .0 .modes-start-most;
+        entries-is = p .0 .entries-start-is;
+        entries-most = p .0 .entries-start-most;
+      },
       omega (arith, p .3, R .header .entries-most),
       rw (K .1) at (K .0 .rank-is),
       (rw (c .before .before .before .before .cell-of .ensures .0) at (c .before .before .before .cell-edges .ensures)) .upper-is,

@@ -33,6 +33,8 @@ impl Sample {
             "worst" => ("worst", samples::worst()),
             "typical H2" => ("typical H2", samples::h2::typical()),
             "largest H2" => ("largest H2", samples::h2::largest()),
+            "typical H3" => ("typical H3", samples::h3::typical()),
+            "largest H3" => ("largest H3", samples::h3::largest()),
             _ => return Err(format!("{name}: no such certificate")),
         };
         let certificate = read_sound(&bytes).map_err(|refusal| format!("{name}: {refusal:?}"))?;

@@ -28,8 +28,10 @@ pub struct Turn {
 /// Places beyond the counts are 0, but for those of `before`.
 #[derive(Clone, Default)]
 pub struct Network {
-    /// Is it opened by H2?
-    pub is_h2: bool,
+    /// Is it opened by H2 or H3?
+    pub has_starts: bool,
+    /// Is it opened by H3?
+    pub has_goals: bool,
     pub links: usize,
     pub turns: usize,
     pub signals: usize,
@@ -43,6 +45,11 @@ pub struct Network {
     pub memory: [u8; MOST],
     /// Its green byte. In HD certificates every link is green: none is held to its start flow.
     pub before: [u8; MOST],
+    /// The goal of each mode, by link; 0 but in H3 certificates.
+    pub goals: [[u16; MOST]; MOST],
+    /// The goal number of each mode, and the one that comes after it; 0 but in H3 certificates.
+    pub number: [u8; MOST],
+    pub after: [u8; MOST],
     /// Intervals of each link.
     pub counts: [usize; MOST],
     /// Edges of each link: 0, the cuts, cap.
@@ -55,6 +62,25 @@ pub struct Network {
 }
 
 impl Network {
+    /// The goal of a mode for a link.
+    pub fn goal(&self, mode: usize, link: usize) -> u16 {
+        match self.has_goals {
+            true => self.goals[mode][link],
+            false => self.link[link].goal,
+        }
+    }
+
+    /// Has a mode's next mode the due goal number: the same above rank 0, with rank 0 the one after it?
+    #[inline]
+    pub fn keeps_turn(&self, mode: u8, next: u8, rank: u16) -> bool {
+        let mode = usize::from(mode) & 7;
+        let due = match rank {
+            0 => self.after[mode],
+            _ => self.number[mode],
+        };
+        self.number[usize::from(next) & 7] == due
+    }
+
     /// Cells from one interval of a link to its next.
     pub fn strides(&self) -> [usize; MOST] {
         let mut strides = [1; MOST];

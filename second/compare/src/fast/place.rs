@@ -2,12 +2,15 @@
 
 use super::network::{Network, MOST};
 
-/// A cell, its intervals, and how many intervals of each link keep to safe and to goal.
+/// A cell, its intervals, and how many intervals of each link keep to safe and to each goal.
 pub struct Place {
     cell: usize,
     pub intervals: [usize; MOST],
     safe: [usize; MOST],
+    /// By the goals of the links.
     goal: [usize; MOST],
+    /// By the goals of the modes, in H3 certificates alone.
+    goals: Vec<[usize; MOST]>,
 }
 
 impl Place {
@@ -18,12 +21,19 @@ impl Place {
             intervals: [0; MOST],
             safe: [1; MOST],
             goal: [1; MOST],
+            goals: Vec::new(),
         };
+        if network.has_goals {
+            place.goals = vec![[1; MOST]; network.modes];
+        }
         for (number, link) in network.link[..network.links].iter().enumerate() {
             let upper = &network.edges[number][1..=network.counts[number]];
             let within = |limit| upper.iter().filter(|&&edge| edge <= limit).count();
             place.safe[number] = within(link.safe);
             place.goal[number] = within(link.goal);
+            for (mode, goal) in place.goals.iter_mut().enumerate() {
+                goal[number] = within(network.goal(mode, number));
+            }
         }
         place
     }
@@ -50,10 +60,13 @@ impl Place {
         self.within(&self.safe)
     }
 
-    /// Are all upper edges at most goal?
+    /// Are all upper edges at most the goal of a mode?
     #[inline]
-    pub fn is_goal(&self) -> bool {
-        self.within(&self.goal)
+    pub fn is_goal(&self, mode: u8) -> bool {
+        match self.goals.get(usize::from(mode)) {
+            None => self.within(&self.goal),
+            Some(goal) => self.within(goal),
+        }
     }
 
     #[inline]

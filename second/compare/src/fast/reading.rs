@@ -1,10 +1,12 @@
-//! Reading in one pass: refusals 1 to 11, 22 and 23.
+//! Reading in one pass: refusals 1 to 11 and 22 to 24.
 
 mod entries;
+mod modes;
 
 use super::conditions::{flows, pull_sums};
 use super::network::{Entry, Link, Network, Turn, ALL_GREEN, MOST};
-use entries::entries;
+use entries::{entries, goal_entries};
+use modes::{goal_modes, modes};
 use second::Report;
 
 /// Bytes of an EN record.
@@ -29,22 +31,25 @@ pub fn read<'a, T>(
     mut put: impl FnMut(&mut T, Entry),
 ) -> Result<(Read<'a>, T), Report> {
     let mut at = header(bytes, network)?;
-    match network.is_h2 {
+    match network.has_starts {
         false => links::<HD_LINK>(bytes, &mut at, network)?,
         true => links::<H2_LINK>(bytes, &mut at, network)?,
     }
     turns(bytes, &mut at, network)?;
     signals(bytes, &mut at, network)?;
-    if network.is_h2 {
-        modes(bytes, &mut at, network)?;
+    match (network.has_starts, network.has_goals) {
+        (false, _) => (),
+        (true, false) => modes(bytes, &mut at, network)?,
+        (true, true) => goal_modes(bytes, &mut at, network)?,
     }
     grids(bytes, &mut at, network)?;
     arrivals(bytes, &mut at, network)?;
     let mut made = start(network);
     let each = |entry| put(&mut made, entry);
-    let records = match network.is_h2 {
-        false => entries::<false>(bytes, at, network, each)?,
-        true => entries::<true>(bytes, at, network, each)?,
+    let records = match (network.has_starts, network.has_goals) {
+        (false, _) => entries::<false, false>(bytes, at, network, each)?,
+        (true, false) => entries::<true, false>(bytes, at, network, each)?,
+        (true, true) => goal_entries(bytes, at, network, each)?,
     };
     at += ENTRY * network.entries;
     record::<2>(bytes, at, b"ZZ")?;
@@ -77,6 +82,20 @@ fn record<'a, const SIZE: usize>(
     }
 }
 
+/// The record of so many bytes.
+#[inline]
+fn record_of<'a>(
+    bytes: &'a [u8],
+    at: usize,
+    size: usize,
+    mark: &[u8; 2],
+) -> Result<&'a [u8], Report> {
+    match bytes.get(at..at + size) {
+        Some(record) if record.starts_with(mark) => Ok(record),
+        _ => Err(not_there(bytes, at, mark)),
+    }
+}
+
 /// Why no record with this mark stands at an offset.
 #[cold]
 fn not_there(bytes: &[u8], at: usize, mark: &[u8; 2]) -> Report {
@@ -91,13 +110,16 @@ fn wide(bytes: &[u8], at: usize) -> u16 {
     u16::from_be_bytes([bytes[at], bytes[at + 1]])
 }
 
-/// HD or H2; tells the offset behind it.
+/// HD, H2 or H3; tells the offset behind it.
 fn header(bytes: &[u8], network: &mut Network) -> Result<usize, Report> {
-    network.is_h2 = bytes.starts_with(b"H2");
-    let record = match network.is_h2 {
-        false => record::<9>(bytes, 0, b"HD")?,
-        true => record::<9>(bytes, 0, b"H2")?,
+    let mark = match bytes.get(..2) {
+        Some(b"H2") => b"H2",
+        Some(b"H3") => b"H3",
+        _ => b"HD",
     };
+    network.has_starts = mark != b"HD";
+    network.has_goals = mark == b"H3";
+    let record = record::<9>(bytes, 0, mark)?;
     network.before = [ALL_GREEN; MOST];
     network.links = record[2].into();
     network.turns = record[3].into();
@@ -191,18 +213,6 @@ fn signals(bytes: &[u8], at: &mut usize, network: &mut Network) -> Result<(), Re
     Ok(())
 }
 
-/// MD records: the signal that each mode remembers.
-fn modes(bytes: &[u8], at: &mut usize, network: &mut Network) -> Result<(), Report> {
-    for mode in 0..network.modes {
-        let signal = record::<3>(bytes, *at, b"MD")?[2];
-        must(6, *at, usize::from(signal) < network.signals)?;
-        network.memory[mode] = signal;
-        network.before[mode] = network.green[usize::from(signal)];
-        *at += 3;
-    }
-    Ok(())
-}
-
 fn grids(bytes: &[u8], at: &mut usize, network: &mut Network) -> Result<(), Report> {
     let mut cells = 1;
     for link in 0..network.links {
@@ -232,10 +242,7 @@ fn grids(bytes: &[u8], at: &mut usize, network: &mut Network) -> Result<(), Repo
 fn arrivals(bytes: &[u8], at: &mut usize, network: &mut Network) -> Result<(), Report> {
     let size = 2 + 4 * network.links;
     for number in 0..network.boxes {
-        let record = match bytes.get(*at..*at + size) {
-            Some(record) if record.starts_with(b"AR") => record,
-            _ => return Err(not_there(bytes, *at, b"AR")),
-        };
+        let record = record_of(bytes, *at, size, b"AR")?;
         for (link, pair) in record[2..].chunks_exact(4).enumerate() {
             let (low, high) = (wide(pair, 0), wide(pair, 2));
             must(8, *at, low <= high && high <= 10_000)?;

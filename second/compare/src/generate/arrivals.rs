@@ -1,7 +1,7 @@
 //! Random arrival boxes.
 
 use crate::numbers::Numbers;
-use second::certificate::{Arrival, Certificate, Greens, Kind, Link, MOST_AMOUNT, MOST_LINKS};
+use second::certificate::{Arrival, Certificate, Greens, Link, MOST_AMOUNT, MOST_LINKS};
 use second::flow::{next_queues, FINER};
 use second::grid::{intervals, Cell};
 use second::image::image;
@@ -115,9 +115,9 @@ impl Filled {
 fn any_filled(certificate: &Certificate, numbers: &mut Numbers) -> Filled {
     let cell = any_cell(certificate, numbers);
     let now = numbers.pick(&certificate.signals);
-    let greens = match certificate.kind {
-        Kind::Hd => Greens::same(now),
-        Kind::H2 => Greens {
+    let greens = match certificate.kind.has_starts() {
+        false => Greens::same(now),
+        true => Greens {
             now,
             before: numbers.pick(&certificate.signals),
         },

@@ -3,7 +3,7 @@
 use second::certificate::{Certificate, Entry};
 use std::ops::Range;
 
-/// Bytes of HD or H2, of an LK without start flow, of a TN, and of an SG or MD.
+/// Bytes of the first record, of an LK without start flow, of a TN, and of an SG or an MD without goal.
 const HEADER: usize = 9;
 const LINK: usize = 12;
 const TURN: usize = 7;
@@ -24,8 +24,12 @@ pub fn bytes_of(certificate: &Certificate) -> Vec<u8> {
     for &green in &certificate.signals {
         out.extend([b'S', b'G', green]);
     }
-    for &signal in &certificate.memory {
+    for (mode, &signal) in certificate.memory.iter().enumerate() {
         out.extend([b'M', b'D', signal]);
+        if let Some(goal) = certificate.goals.get(mode) {
+            out.push(goal.number);
+            put(&mut out, &goal.amounts);
+        }
     }
     for cuts in &certificate.cuts {
         out.extend([b'G', b'R', cuts.len() as u8 + 1]);
@@ -68,7 +72,9 @@ pub fn links_place(certificate: &Certificate) -> Range<usize> {
 pub fn modes_place(certificate: &Certificate) -> Range<usize> {
     let turns = TURN * certificate.turns.len();
     let start = links_place(certificate).end + turns + SIGNAL * certificate.signals.len();
-    start..start + SIGNAL * certificate.memory.len()
+    let goals = certificate.goals.iter().take(certificate.memory.len());
+    let goals: usize = goals.map(|goal| 1 + 2 * goal.amounts.len()).sum();
+    start..start + SIGNAL * certificate.memory.len() + goals
 }
 
 fn put_entry(out: &mut Vec<u8>, entry: &Entry) {

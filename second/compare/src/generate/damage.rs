@@ -1,6 +1,8 @@
 //! Damaged copies of certificates.
 
-mod h2;
+mod goals;
+mod kind;
+mod starts;
 
 use super::bytes::bytes_of;
 use super::entries::{spoil, Way};
@@ -12,8 +14,8 @@ pub fn damaged(certificate: &Certificate, numbers: &mut Numbers) -> Vec<u8> {
     let mut copy = certificate.clone();
     if numbers.chance(30) {
         let mut bytes = bytes_of(&copy);
-        if copy.kind == Kind::H2 && numbers.chance(30) {
-            h2::change_record(&mut bytes, &copy, numbers);
+        if copy.kind.has_starts() && numbers.chance(30) {
+            starts::change_record(&mut bytes, &copy, numbers);
             return bytes;
         }
         for _ in 0..numbers.pick(&[1, 1, 1, 2, 5]) {
@@ -21,15 +23,12 @@ pub fn damaged(certificate: &Certificate, numbers: &mut Numbers) -> Vec<u8> {
         }
         return bytes;
     }
-    let of_kind = match copy.kind {
-        Kind::Hd => 3,
-        Kind::H2 => 25,
-    };
     for _ in 0..numbers.pick(&[1, 1, 1, 2]) {
-        if numbers.chance(of_kind) {
-            h2::change(&mut copy, numbers);
-        } else {
-            change(&mut copy, numbers);
+        match (copy.kind, numbers.between(1, 100)) {
+            (_, 1..=3) => kind::change(&mut copy, numbers),
+            (Kind::H2, 4..=25) | (Kind::H3, 4..=15) => starts::change(&mut copy, numbers),
+            (Kind::H3, 16..=45) => goals::change(&mut copy, numbers),
+            _ => change(&mut copy, numbers),
         }
     }
     bytes_of(&copy)
@@ -48,7 +47,7 @@ fn change(copy: &mut Certificate, numbers: &mut Numbers) {
         14 => change_rank(copy, numbers),
         15 => change_signal(copy, numbers),
         _ => {
-            let way = numbers.pick(&Way::all(copy.kind));
+            let way = numbers.pick(&Way::all(copy));
             spoil(copy, way, numbers);
         }
     }

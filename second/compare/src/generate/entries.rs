@@ -1,14 +1,16 @@
-//! Entries that name what is missing, entries out of order, and those whose next mode remembers another signal.
+//! Entries that name what is missing, entries out of order, and those whose next mode remembers another signal or has
+//! another goal number than is due.
 
-mod memory;
+mod modes;
 mod ways;
 
 pub use ways::{Beside, Name, Order, Way};
 
 use super::bytes::bytes_of;
 use crate::numbers::Numbers;
-use second::certificate::{Certificate, Kind};
-use second::Report;
+pub use modes::leave_goal;
+use modes::{forget, leave_turn, mend, spoil_two};
+use second::{Certificate, Report};
 
 /// Bytes of an EN record, and of ZZ.
 const ENTRY: usize = 9;
@@ -46,7 +48,15 @@ pub fn spoil(copy: &mut Certificate, way: Way, numbers: &mut Numbers) -> usize {
             misname(copy, later, numbers.pick(&names));
             at
         }
-        Way::Forgotten(beside) => memory::spoil(copy, beside, numbers),
+        Way::Forgotten(beside) => modes::spoil(copy, forget, beside, numbers),
+        Way::OutOfTurn(beside) => modes::spoil(copy, leave_turn, beside, numbers),
+        Way::ForgottenOutOfTurn => {
+            let at = modes::spoil(copy, leave_turn, Beside::Nothing, numbers);
+            forget(copy, at, numbers);
+            at
+        }
+        Way::ForgottenThen => spoil_two(copy, [forget, leave_turn], numbers),
+        Way::OutOfTurnThen => spoil_two(copy, [leave_turn, forget], numbers),
     }
 }
 
@@ -98,20 +108,31 @@ fn repeat(copy: &mut Certificate, at: usize) {
     copy.entries[at].mode = copy.entries[at - 1].mode;
 }
 
-/// Makes the modes as many as this at least; those of H2 certificates remember any signal.
+/// Makes the modes as many as this at least; new ones remember the first signal and have the first goal.
 fn need_modes(copy: &mut Certificate, modes: u8) {
     copy.modes = copy.modes.max(modes);
-    if copy.kind == Kind::H2 && copy.memory.len() < copy.modes.into() {
+    if copy.kind.has_starts() && copy.memory.len() < copy.modes.into() {
         copy.memory.resize(copy.modes.into(), 0);
+    }
+    if let Some(goal) = copy.goals.first().cloned() {
+        copy.goals.resize(copy.memory.len(), goal);
+    }
+}
+
+/// Gives an entry another mode. Where modes have goals, it then keeps to that mode.
+fn pass_to_mode(copy: &mut Certificate, at: usize, mode: u8) {
+    let is_other = copy.entries[at].mode != mode;
+    copy.entries[at].mode = mode;
+    if is_other && copy.kind.has_goals() {
+        mend(copy, at);
     }
 }
 
 /// The entry before it passes to mode 1 if it has mode 0.
 fn lower_mode(copy: &mut Certificate, at: usize, numbers: &mut Numbers) {
-    let before = &mut copy.entries[at - 1];
-    if before.mode == 0 {
-        before.mode = 1;
+    if copy.entries[at - 1].mode == 0 {
         need_modes(copy, 2);
+        pass_to_mode(copy, at - 1, 1);
     }
     repeat(copy, at);
     let most = copy.entries[at].mode - 1;
@@ -131,7 +152,7 @@ fn lower_cell(copy: &mut Certificate, at: usize, numbers: &mut Numbers) {
     }
     need_modes(copy, modes);
     copy.entries[at - 1].cell = cell;
-    copy.entries[at - 1].mode = mode;
+    pass_to_mode(copy, at - 1, mode);
     copy.entries[at].cell = numbers.wide(0, cell - 1);
     copy.entries[at].mode = numbers.wide(u16::from(mode) + 1, u16::from(modes) - 1) as u8;
 }

@@ -2,19 +2,18 @@
 
 use super::solve::{ByCell, Choice, Game};
 use crate::fast::image::Flows;
-use crate::fast::network::Network;
+use crate::fast::network::{Network, MOST};
 use crate::fast::ranges::{Range, Steps as Ranges};
 use crate::numbers::Numbers;
 
 /// The game with so many of the modes.
 pub fn game(network: &Network, numbers: &mut Numbers, modes: usize) -> Game {
-    let within = |cell: usize, limit: fn(&Network, usize) -> u16| {
-        let intervals = network.intervals(cell);
-        (0..network.links).all(|l| network.edges[l][intervals[l] + 1] <= limit(network, l))
-    };
     let cells = 0..network.cells;
-    let safe = |cell| within(cell, |network, link| network.link[link].safe);
-    let goal = |cell| within(cell, |network, link| network.link[link].goal);
+    let safe = |cell| is_within(network, cell, |link| network.link[link].safe);
+    let goal = |pair: usize| {
+        let (cell, mode) = (pair / modes, pair % modes);
+        is_within(network, cell, |link| network.goal(mode, link))
+    };
     let choices: Vec<Vec<Choice>> = (0..modes)
         .map(|_| mode_choices(network, numbers, modes))
         .collect();
@@ -31,14 +30,27 @@ pub fn game(network: &Network, numbers: &mut Numbers, modes: usize) -> Game {
             .map(|&green| successors(network, green, &choices))
             .collect(),
         choices,
-        safe: cells.clone().map(safe).collect(),
-        goal: cells.map(goal).collect(),
+        safe: cells.map(safe).collect(),
+        goal: (0..network.cells * modes).map(goal).collect(),
+        follow: [1, 0].map(|rank| (0..modes).map(|mode| follow(network, mode, rank)).collect()),
     }
+}
+
+/// The modes that may follow a mode with a rank; bit n is mode n.
+fn follow(network: &Network, mode: usize, rank: u16) -> u8 {
+    let modes = (0..MOST as u8).filter(|&next| network.keeps_turn(mode as u8, next, rank));
+    modes.fold(0, |all, next| all | 1 << next)
+}
+
+/// Do all upper edges of a cell keep to a limit, which is told by link?
+fn is_within(network: &Network, cell: usize, limit: impl Fn(usize) -> u16) -> bool {
+    let intervals = network.intervals(cell);
+    (0..network.links).all(|link| network.edges[link][intervals[link] + 1] <= limit(link))
 }
 
 /// All signals in a single mode; a few choices in each of several ones.
 fn mode_choices(network: &Network, numbers: &mut Numbers, modes: usize) -> Vec<Choice> {
-    if network.is_h2 {
+    if network.has_starts {
         return remembered_choices(network, numbers, modes);
     }
     if modes == 1 {
@@ -59,7 +71,8 @@ fn mode_choices(network: &Network, numbers: &mut Numbers, modes: usize) -> Vec<C
 /// Every next mode with the signal that it remembers; sometimes a few of them.
 fn remembered_choices(network: &Network, numbers: &mut Numbers, modes: usize) -> Vec<Choice> {
     let choice = |next: usize| (network.memory[next], next as u8);
-    if numbers.chance(80) {
+    let all = if network.has_goals { 95 } else { 80 };
+    if numbers.chance(all) {
         return (0..modes).map(choice).collect();
     }
     let count = numbers.between(1, 3);

@@ -22,6 +22,7 @@ pub fn network(numbers: &mut Numbers, size: Size) -> Certificate {
         signals,
         modes: 1,
         memory: Vec::new(),
+        goals: Vec::new(),
         cuts: Vec::new(),
         arrivals: Vec::new(),
         entries: Vec::new(),

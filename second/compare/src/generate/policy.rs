@@ -2,6 +2,7 @@
 
 use super::bytes::bytes_of;
 use super::game::game;
+use super::goals::add_goals;
 use super::solve::{Choice, Game, Steps};
 use super::starts::add_memory;
 use crate::fast::network::Network;
@@ -17,17 +18,27 @@ pub fn add_policy(certificate: &mut Certificate, numbers: &mut Numbers) -> Optio
     let modes = 1 + match certificate.kind {
         Kind::Hd => numbers.weighed(&[40, 30, 15, 5, 3, 3, 2, 2]),
         Kind::H2 => numbers.weighed(&[10, 30, 25, 14, 8, 6, 4, 3]),
+        Kind::H3 => numbers.weighed(&[4, 12, 18, 20, 12, 12, 8, 14]),
     };
-    if certificate.kind == Kind::H2 {
-        add_memory(certificate, modes, numbers);
+    let cells = certificate.cuts.iter().map(|cuts| cuts.len() + 1).product();
+    let modes = modes.min(most_modes(cells));
+    match certificate.kind {
+        Kind::Hd => (),
+        Kind::H2 => add_memory(certificate, modes, numbers),
+        Kind::H3 => add_goals(certificate, modes, numbers),
     }
     let whole = numbers.chance(60);
     find_policy(certificate, numbers, modes, whole)
 }
 
+/// So many modes can be searched on a grid of so many cells.
+fn most_modes(cells: usize) -> usize {
+    (MOST_PAIRS / cells).clamp(1, 8)
+}
+
 /// Adds modes and entries; tells the greatest rank, or none if no pair of cell and mode can be listed.
-/// A network that breaks a condition, or has no policy, gets a single entry. The modes of an H2 certificate have a
-/// memory each already; it keeps the first of them if there are pairs of cell and mode for fewer.
+/// A network that breaks a condition, or has no policy, gets a single entry. But in an HD certificate, modes have their
+/// memories and goals already; there are no more than can be searched.
 pub fn find_policy(
     certificate: &mut Certificate,
     numbers: &mut Numbers,
@@ -40,21 +51,20 @@ pub fn find_policy(
         mode: 0,
         signal: certificate.memory.first().copied().unwrap_or(0),
         next: 0,
-        rank: 0,
+        // Above 0 the mode keeps its goal number.
+        rank: certificate.kind.has_goals().into(),
     }];
     let bytes = bytes_of(certificate);
     let mut network = Network::default();
     let (read, ()) = read(&bytes, &mut network, |_| (), |_, _| ()).ok()?;
-    let most = (MOST_PAIRS / read.network.cells).clamp(1, 8);
-    let modes = modes.min(most);
     let game = game(read.network, numbers, modes);
     let steps = game.solve();
     if steps.iter().all(Option::is_none) {
         return None;
     }
     certificate.modes = modes as u8;
-    certificate.memory.truncate(modes);
-    let choices = choose(&game, &steps, numbers);
+    let is_late = certificate.kind.has_goals() && numbers.chance(60);
+    let choices = choose(&game, &steps, is_late, numbers);
     let kept = if whole {
         steps.iter().map(Option::is_some).collect()
     } else {
@@ -67,16 +77,22 @@ pub fn find_policy(
     certificate.entries.iter().map(|entry| entry.rank).max()
 }
 
-/// A choice for each listed pair, at random among those that do.
-fn choose(game: &Game, steps: &Steps, numbers: &mut Numbers) -> Vec<Choice> {
+/// A choice for each listed pair, at random among those that do, or among those that may take the most steps to the goal
+/// that comes next: else goals in turn are mostly met all at once.
+fn choose(game: &Game, steps: &Steps, is_late: bool, numbers: &mut Numbers) -> Vec<Choice> {
     let mut choices = vec![(0, 0); steps.len()];
     for pair in 0..steps.len() {
         let Some(own) = steps[pair] else { continue };
         let limit = (own > 0).then_some(own);
-        let open: Vec<Choice> = game
+        let mut open: Vec<Choice> = game
             .choices_of(pair)
             .filter(|&choice| game.leads(pair, choice, steps, limit))
             .collect();
+        if is_late {
+            let most = |choice: &Choice| game.most_steps(pair, *choice, steps);
+            let latest = open.iter().map(most).max();
+            open.retain(|choice| Some(most(choice)) == latest);
+        }
         choices[pair] = numbers.pick(&open);
     }
     choices

@@ -15,8 +15,12 @@ pub struct Game {
     /// Which of the successors are those of a mode: those after the signal that it remembers.
     pub memory: Vec<usize>,
     pub successors: Vec<ByCell>,
+    /// Is a cell safe?
     pub safe: Vec<bool>,
+    /// Is a pair in the goal of its mode?
     pub goal: Vec<bool>,
+    /// Which modes may follow each mode outside of its goal, and in it: bit n is mode n.
+    pub follow: [Vec<u8>; 2],
 }
 
 /// Steps to the goal of each pair; none for a pair that is not listed.
@@ -47,7 +51,7 @@ impl Game {
                 self.choices_of(pair)
                     .any(|choice| self.leads(pair, choice, listed, None))
             };
-            if listed[pair].is_some() && self.goal[pair / self.modes] && stays(pair) {
+            if listed[pair].is_some() && self.goal[pair] && stays(pair) {
                 steps[pair] = Some(0);
             }
         }
@@ -59,7 +63,7 @@ impl Game {
                     self.choices_of(pair)
                         .any(|choice| self.leads(pair, choice, &steps, None))
                 };
-                if open && !self.goal[pair / self.modes] && nearer(pair) {
+                if open && !self.goal[pair] && nearer(pair) {
                     found.push(pair);
                 }
             }
@@ -73,14 +77,25 @@ impl Game {
         steps
     }
 
+    /// The choices of a pair, whose next modes may follow.
     pub fn choices_of(&self, pair: usize) -> impl Iterator<Item = Choice> + '_ {
-        self.choices[pair % self.modes].iter().copied()
+        let mode = pair % self.modes;
+        let follow = self.follow[usize::from(self.goal[pair])][mode];
+        let choices = self.choices[mode].iter().copied();
+        choices.filter(move |&(_, next)| follow >> next & 1 == 1)
     }
 
     /// The successor cells of a pair under a signal.
     pub fn successors(&self, pair: usize, signal: u8) -> &[u16] {
         let after = &self.successors[self.memory[pair % self.modes]];
         &after[pair / self.modes][usize::from(signal)]
+    }
+
+    /// The most steps of the pairs that a choice leads to.
+    pub fn most_steps(&self, pair: usize, choice: Choice, steps: &Steps) -> Option<u16> {
+        let successors = self.successors(pair, choice.0).iter();
+        let next = |&cell: &u16| steps[usize::from(cell) * self.modes + usize::from(choice.1)];
+        successors.filter_map(next).max()
     }
 
     /// Does a choice lead to listed pairs only, all of them fewer steps away than `limit`?

@@ -1,11 +1,10 @@
-//! What H2 certificates have more: start flows, and the signals that modes remember.
+//! What H2 and H3 certificates have more: start flows, and the signals that modes remember.
 
 use crate::numbers::Numbers;
 use second::certificate::{Certificate, Kind};
 
 /// Gives every link a start flow: often its flow, often a small one.
 pub fn add_starts(certificate: &mut Certificate, numbers: &mut Numbers) {
-    certificate.kind = Kind::H2;
     let style = numbers.below(10);
     for link in &mut certificate.links {
         let own = match style {
@@ -48,6 +47,7 @@ pub fn add_memory(certificate: &mut Certificate, modes: usize, numbers: &mut Num
 /// Turns an HD certificate into an H2 certificate. A mode remembers the signal of an entry that leads to it, if there
 /// is one.
 pub fn to_h2(certificate: &mut Certificate, numbers: &mut Numbers) {
+    certificate.kind = Kind::H2;
     add_starts(certificate, numbers);
     add_memory(certificate, certificate.modes.into(), numbers);
     for entry in &certificate.entries {
@@ -57,10 +57,11 @@ pub fn to_h2(certificate: &mut Certificate, numbers: &mut Numbers) {
     }
 }
 
-/// Turns an H2 certificate into an HD certificate: start flows and memories are left out.
+/// Turns any certificate into an HD certificate: start flows, memories and goals of modes are left out.
 pub fn to_hd(certificate: &mut Certificate) {
     certificate.kind = Kind::Hd;
     certificate.memory.clear();
+    certificate.goals.clear();
     for link in &mut certificate.links {
         link.start = None;
     }

@@ -14,6 +14,7 @@ pub fn listed() -> Vec<u8> {
         signals: vec![1, 0],
         modes: 2,
         memory: vec![0, 1],
+        goals: Vec::new(),
         cuts: vec![vec![5, 8]],
         arrivals: vec![arrivals(&[(0, 2)])],
         entries: Vec::new(),
@@ -31,7 +32,7 @@ pub fn typical() -> Vec<u8> {
 }
 
 /// Start flows of half the flows, and a policy for every pair that can be listed.
-fn with_policy(mut certificate: Certificate) -> Vec<u8> {
+pub(super) fn with_policy(mut certificate: Certificate) -> Vec<u8> {
     for link in &mut certificate.links {
         link.start = Some(link.flow / 2);
     }
@@ -43,14 +44,21 @@ fn with_policy(mut certificate: Certificate) -> Vec<u8> {
 /// The links, turns, signals and arrivals of the largest HD certificate, 4 × 2 × 2 × 2 × 2 × 2 × 2 × 2 cells with 8
 /// modes each, all of them goal. Every mode leads to every mode.
 pub fn largest() -> Vec<u8> {
-    large(
-        |link| if link == 0 { 4 } else { 2 },
-        |pair| (pair / 8, pair % 8, (pair / 8 + pair) % 8),
-    )
+    bytes_of(&large(EIGHT_MODES, |pair| {
+        (pair / 8, pair % 8, (pair / 8 + pair) % 8)
+    }))
 }
+
+/// Intervals of each link with which 4,096 entries have every cell in each of eight modes.
+pub(super) const EIGHT_MODES: fn(u16) -> u16 = |link| if link == 0 { 4 } else { 2 };
 
 /// As long as a certificate can be: three links of 15 intervals. Every cell has mode 0, and the first ones mode 1.
 pub fn longest() -> Vec<u8> {
+    bytes_of(&longest_certificate())
+}
+
+/// The same before it is bytes.
+pub(super) fn longest_certificate() -> Certificate {
     let first = 4_096 - 15 * 15 * 15;
     large(
         |link| if link < 3 { 15 } else { 1 },
@@ -62,7 +70,10 @@ pub fn longest() -> Vec<u8> {
 }
 
 /// 4,096 entries, given by cell, mode and next mode, on so many intervals a link.
-fn large(intervals: fn(u16) -> u16, pair: impl Fn(u16) -> (u16, u16, u16)) -> Vec<u8> {
+pub(super) fn large(
+    intervals: fn(u16) -> u16,
+    pair: impl Fn(u16) -> (u16, u16, u16),
+) -> Certificate {
     let memory: Vec<u8> = (0..8).map(|mode| 2 * mode + 1).collect();
     let entry = |number: u16| {
         let (cell, mode, next) = pair(number);
@@ -85,5 +96,5 @@ fn large(intervals: fn(u16) -> u16, pair: impl Fn(u16) -> (u16, u16, u16)) -> Ve
     for (number, link) in certificate.links.iter_mut().enumerate() {
         link.start = Some(1 + number as u16);
     }
-    bytes_of(&certificate)
+    certificate
 }

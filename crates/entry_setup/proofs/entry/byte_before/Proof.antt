@@ -1,6 +1,7 @@
 -- `entry_setup::entry::byte_before` meets its contract. Assumes nothing.
 use Rattle.entry_setup.proofs.EntryEnds.{own-byte, shown-byte}
 use borrow.Author.Needs.{needs}
+use Rattle.octets.proofs.Cases.{not-no}
 use Rattle.entry_setup.proofs.entry.byte_before.Statement.{statement}
 use Rattle.entry_setup.proofs.entry.byte_before.Tie as tie
 
@@ -13,8 +14,11 @@ returns c = search own-byte
 mode-of-requires : tie.Need-mode-of-requires
 mode-of-requires c κs = search needs
 
+place-of-requires : tie.Need-place-of-requires
+place-of-requires c κs = search needs
+
 shown-before-requires : tie.Need-shown-before-requires
-shown-before-requires c κs = search needs
+shown-before-requires c κs = (search needs, search needs, search not-no)
 
 green-byte-of-requires : tie.Need-green-byte-of-requires
 green-byte-of-requires c κs = search needs
@@ -29,6 +33,7 @@ byte-before-spec =
     has-memory-requires
     returns
     mode-of-requires
+    place-of-requires
     shown-before-requires
     green-byte-of-requires
     returns-2)

@@ -1,11 +1,11 @@
-//! The EN records: refusals 1, 2, 9, 22 and 23.
+//! The EN records: refusals 1, 2, 9, 22, 23 and 24.
 
 use super::{not_there, ENTRY};
 use crate::fast::network::{Entry, Network};
 use second::Report;
 
-/// EN records, of H2 certificates with the test of 23.
-pub fn entries<'a, const IS_H2: bool>(
+/// EN records; with the test of 23 where there are start flows, and of 24 where modes have goals.
+pub fn entries<'a, const STARTS: bool, const GOALS: bool>(
     bytes: &'a [u8],
     at: usize,
     network: &Network,
@@ -19,8 +19,11 @@ pub fn entries<'a, const IS_H2: bool>(
         let key = key(entry);
         // In this order for speed alone; which test fails is told by `refused`.
         let mut holds = (record[..2] == *b"EN") & (key >= least) & names_exist(entry, network);
-        if IS_H2 {
+        if STARTS {
             holds &= is_remembered(entry, network);
+        }
+        if GOALS {
+            holds &= network.keeps_turn(entry.mode, entry.next, entry.rank);
         }
         if !holds {
             return Err(refused(record, at + ENTRY * number, least, network));
@@ -32,6 +35,17 @@ pub fn entries<'a, const IS_H2: bool>(
         return Err(not_there(bytes, at + ENTRY * records.len(), b"EN"));
     }
     Ok(records)
+}
+
+/// Those of H3 certificates, in a place of their own for the speed of the others.
+#[inline(never)]
+pub fn goal_entries<'a>(
+    bytes: &'a [u8],
+    at: usize,
+    network: &Network,
+    each: impl FnMut(Entry),
+) -> Result<&'a [[u8; ENTRY]], Report> {
+    entries::<true, true>(bytes, at, network, each)
 }
 
 /// The keys of entries whose names exist ascend as their pairs do.
@@ -56,7 +70,7 @@ fn is_remembered(entry: Entry, network: &Network) -> bool {
 }
 
 /// Why the record of an entry fails: by its mark, else by a name, else by a key below the least, else by its next mode's
-/// memory.
+/// memory, else by its next mode's goal number.
 #[cold]
 fn refused(record: &[u8; ENTRY], at: usize, least: usize, network: &Network) -> Report {
     let entry = Entry::of(record);
@@ -66,8 +80,10 @@ fn refused(record: &[u8; ENTRY], at: usize, least: usize, network: &Network) -> 
         9
     } else if key(entry) < least {
         22
-    } else {
+    } else if !is_remembered(entry, network) {
         23
+    } else {
+        24
     };
     Report::at(number, at)
 }

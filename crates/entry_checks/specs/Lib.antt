@@ -1,0 +1,2 @@
+-- What the tests of entries go by.
+pub mod Keys

@@ -1,2 +1,0 @@
--- What the code that reads entries goes by.
-pub mod Keys

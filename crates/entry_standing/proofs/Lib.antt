@@ -1,0 +1,2 @@
+-- The edges of a cell beside limits.
+pub mod EdgeLimits

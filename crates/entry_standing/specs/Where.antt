@@ -1,0 +1,22 @@
+-- What the standing of an entry goes by.
+use Prim.Native.Nat.{ℕ, _≤_, _<_}
+use mathlib.Core.List.{List}
+use mathlib.Core.Path.{_≡_}
+use lib.ListN.{getD}
+use Rattle.certificate.specs.Layout.{maxLinks, linksOf, modesStart, entriesStart, cellOf}
+use Rattle.grid.specs.Cells.{upperOf}
+use Rattle.octets.specs.Bounds.{startBound}
+use Rattle.entry_standing.specs.declared.Where.{Where}
+
+-- a table of the upper edges of entry e's cell, one a link
+abbrev pub UpperEdges : List ℕ → ℕ → List ℕ → Type 0
+UpperEdges s e upper = (l : ℕ) → l < linksOf s → getD upper l 0 ≡ upperOf s (cellOf s e) l
+
+-- how many links s has, and where its modes and entries begin
+pub record WhereOf (s : List ℕ) (at : Where) : Type 0 where
+  pub links-are : at .links ≡ linksOf s
+  pub links-most : at .links ≤ maxLinks
+  pub modes-is : at .«modes_start» ≡ modesStart s
+  pub modes-most : at .«modes_start» ≤ startBound
+  pub entries-is : at .«entries_start» ≡ entriesStart s
+  pub entries-most : at .«entries_start» ≤ startBound

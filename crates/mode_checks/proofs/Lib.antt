@@ -1,0 +1,2 @@
+-- The tests of modes as loops.
+pub mod ModeTests

@@ -1,0 +1,2 @@
+-- What the code that reads modes goes by.
+pub mod Placed

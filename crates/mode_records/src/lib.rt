@@ -1,0 +1,3 @@
+// Modes: what each remembers of signals, and its goals.
+pub mod goals;
+pub mod modes;
