@@ -16,8 +16,7 @@ use Rattle.certificate.specs.Layout.{linksOf, capOf, entriesOf}
 use Rattle.certificate.specs.Facts.{Readable}
 use Rattle.reading.specs.ReadingResults.{ReadAs, noLayout}
 use Rattle.certificate.proofs.Tests.{need-both, need-pass, need-fail}
-use Rattle.octets.proofs.Cases.{pass, fail}
-use Rattle.certificate.proofs.Loops.{every-turn, every-end}
+use Rattle.octets.proofs.Cases.{pass, fail, all-on, all-stop, all-end}
 use Rattle.network.specs.Conditions.{screeningOf}
 use Rattle.network.proofs.Screening.{screening-is-plain}
 use Rattle.cell_tables.specs.Tables.{QueuesFit}
@@ -35,17 +34,13 @@ module _ (s queues : List ℕ) (scale links : ℕ) where
 
   module _ (l q cap unit : ℕ) (queue : q ≡ queueAt queues l) (most : cap ≡ capOf s l) (scaled : unit ≡ scale) (inside : l < links) (same : fitFrom l ≡ fitFrom 0) where
     pub fit-on : q ≤ cap * unit → fitFrom (l + 1) ≡ fitFrom 0
-    fit-on le =
-        let e : leb (queueAt queues l) (capOf s l * scale) ≡ true = rw (← queue, ← most, ← scaled) (le-leb _ _ le) in
-        sym (every-turn links l _ inside ∙ rw e) ∙ same
+    fit-on le = all-on links l _ (leb q (cap * unit)) _ inside (rw (queue, most, scaled)) (le-leb q (cap * unit) le) same
 
     pub fit-stop : cap * unit < q → false ≡ fitFrom 0
-    fit-stop lt =
-        let e : leb (queueAt queues l) (capOf s l * scale) ≡ false = rw (← queue, ← most, ← scaled) (lt-leb _ _ lt) in
-        sym (every-turn links l _ inside ∙ rw e) ∙ same
+    fit-stop lt = all-stop links l _ (leb q (cap * unit)) _ inside (rw (queue, most, scaled)) (lt-leb q (cap * unit) lt) same
 
   pub fit-end : (l : ℕ) → links ≤ l → fitFrom l ≡ fitFrom 0 → true ≡ fitFrom 0
-  fit-end l le same = sym (every-end links l _ le) ∙ same
+  fit-end l le same = all-end links l _ _ le same
 
 -- the stored bytes are screened where the array has that many
 module _ (bytes : List ℕ) (n : ℕ) (r : Reading) where

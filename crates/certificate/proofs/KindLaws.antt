@@ -8,7 +8,7 @@ use native.Mathlib.Omega.{arith}
 use borrow.Author.Tests.{eq-eqb, ne-eqb, eqb-true}
 use lib.Dec.{eqb}
 use Rattle.certificate.specs.Loops.{pick, greatestTo}
-use Rattle.certificate.specs.Layout.{kindByteOf, remembers, takesTurns, modesOf, linkSize, startFlowOf, modeRecordsOf, modesStart, modeSize, goalNumberOf, goalFor, greatestGoal, nextGoal, gridStart, rankOf}
+use Rattle.certificate.specs.Layout.{plainModeSize, goalModeSize, kindByteOf, remembers, takesTurns, linksOf, modesOf, linkSize, startFlowOf, modeRecordsOf, modesStart, modeSize, goalNumberOf, goalFor, greatestGoal, nextGoal, gridStart, rankOf}
 use Rattle.certificate.specs.Records.{passesOn, turnsOn}
 use Rattle.certificate.specs.Facts.{Mark, HeaderMark}
 use Rattle.certificate.specs.Laws.{KindIsMark, TurnsRemember, PlainLayout, OneGoalLayout}
@@ -59,3 +59,20 @@ one-goal-layout s one =
     same : (b : Bool) → eqb 0 (pick b 0 0) ≡ true
     same true = refl
     same false = refl
+
+-- the size of an MD tells whether it has goals
+sized : (b : Bool) (links : ℕ) → (pick b (goalModeSize links) plainModeSize ≡ plainModeSize → ⊥) → b ≡ true
+sized true links other = refl
+sized false links other = absurd (other refl)
+
+pub other-size : (s : List ℕ) → (modeSize s ≡ plainModeSize → ⊥) → takesTurns s ≡ true
+unfolding modeSize
+other-size s other = sized (takesTurns s) (linksOf s) other
+
+plain-sized : (b : Bool) (links : ℕ) → pick b (goalModeSize links) plainModeSize ≡ plainModeSize → b ≡ false
+plain-sized true links e = absurd (omega arith)
+plain-sized false links e = refl
+
+pub plain-size : (s : List ℕ) → modeSize s ≡ plainModeSize → takesTurns s ≡ false
+unfolding modeSize
+plain-size s e = plain-sized (takesTurns s) (linksOf s) e

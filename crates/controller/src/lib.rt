@@ -8,12 +8,12 @@ mod loading;
 mod querying;
 mod writing;
 
-// The state by value: the stored certificate's bytes, how many there are, and the mode. The mode stands before the length for speed: with the
-// length before it, copies of the state took longer.
+// The state by value: how many bytes the stored certificate has, the array that holds them, and the mode. The order is one of speed: copies of
+// the state took longest with the array first.
 pub struct Controller {
+    pub len: usize,
     pub bytes: [u8; Controller::SIZE],
     pub mode: u8,
-    pub len: usize,
 }
 
 impl Controller {

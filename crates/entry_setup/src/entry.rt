@@ -128,7 +128,11 @@ fn byte_before(s: &[u8], layout: Layout, e: usize, byte: usize) -> usize
         return byte;
     }
     let mode = entries::mode_of(s, layout.entries_start, e);
-    let shown = modes::shown_before(s, modes::place_of(s, layout.modes_start), mode);
+    let place = modes::Place {
+        start: layout.modes_start,
+        size: layout.mode_size,
+    };
+    let shown = modes::shown_before(s, place, mode);
     signals::green_byte_of(s, layout.signals_start, shown)
 }
 

@@ -1,17 +1,23 @@
 -- Comparing the upper edges of a cell with a limit of each link, one link after another, and the tests 12 and 13. Assumes nothing.
-use Prim.Native.Nat.{ℕ, _+_, _≤_, _<_}
+use Prim.Native.Nat.{ℕ, _+_, _*_, _≤_, _<_}
 use mathlib.Core.List.{List}
 use mathlib.Core.Bool.{Bool, true, false, not, cond, _&&_, Bool·beq}
 use mathlib.Core.Path.{_≡_, refl, sym, ap, _∙_}
 use lib.Dec.{eqb, leb}
 use lib.ListN.{getD}
+use Rattle.certificate.specs.Octets.{u16At}
 use Rattle.certificate.specs.Loops.{everyFrom}
-use Rattle.certificate.specs.Layout.{linksOf, takesTurns, goalOf, goalFor, cellOf, modeOf, rankOf}
-use Rattle.certificate.proofs.Loops.{every-turn, every-end, every-same}
-use Rattle.certificate.proofs.KindLaws.{one-goal-layout}
+use Rattle.certificate.specs.Layout.{plainModeSize, linksOf, linkSize, linkAt, modeAt, goalFor, cellOf, modeOf, rankOf}
+use Rattle.certificate.proofs.Loops.{every-turn, every-end}
+use Rattle.certificate.proofs.KindLaws.{one-goal-layout, other-size, plain-size}
 use Rattle.grid.specs.Cells.{upperOf}
 use Rattle.judging.specs.EntryTests.{isGoal, isRanked, isSafe, standingFault}
-use Rattle.entry_standing.specs.Where.{UpperEdges}
+use Rattle.mode_records.specs.Placed.{Placed}
+use Rattle.mode_records.proofs.ModeFields.{mode-here}
+use Rattle.octets.proofs.Fitting.{product-most}
+use Rattle.entry_standing.specs.declared.GoalRow.{GoalRow}
+use Rattle.entry_standing.specs.Where.{UpperEdges, WhereOf, GoalsIn}
+use Rattle.entry_standing.specs.declared.Where.{Where}
 use native.Mathlib.Omega.{arith}
 use Rattle.certificate.specs.declared.Report.{Report}
 use Rattle.certificate.specs.Checks.{result, fine, need}
@@ -40,14 +46,35 @@ module _ (s : List ℕ) (e : ℕ) (most : ℕ → ℕ) (l : ℕ) (a t : Bool) wh
   unfolding edgesFrom
   edges-end links w ge p = sym (and-true a _ (every-end (linksOf s) l _ (rw w at ge))) ∙ p
 
--- the goal of the entry's mode, by the mode's number
-pub mode-goal : (s : List ℕ) (e l : ℕ) {mode r : ℕ} → mode ≡ modeOf s e → r ≡ goalFor s mode l → r ≡ goalFor s (modeOf s e) l
-mode-goal s e l p q = q ∙ rw p
+-- where the goals of the entry's mode stand: in H3 in the mode's record, else in those of the links
+module _ (s : List ℕ) (e : ℕ) where
+  pub goals-in-mode : {mode o : ℕ} {at : Where} → WhereOf s at → (at .«mode_size» ≡ plainModeSize → ⊥) → mode ≡ modeOf s e
+      → o ≡ at .«modes_start» + at .«mode_size» * mode → o ≤ 300000 → GoalsIn s e (record { first = o + 4; apart = 2 })
+  unfolding goalFor
+  goals-in-mode {mode} {o} W other m here most =
+      let turns = other-size s (λ same. other (W .size-is ∙ same)) in
+      let P : Placed s _ = record { start-is = W .modes-is; start-most = W .modes-most; size-is = W .size-is; size-most = W .size-most } in
+      let at : o ≡ modeAt s (modeOf s e) = mode-here s P mode here ∙ rw m in
+      record { first-most = omega arith; apart-most = omega arith; goal-is = λ l. let same : o + 4 + 2 * l ≡ modeAt s (modeOf s e) + (4 + 2 * l) = omega arith in rw (turns, same) }
 
--- the goals of the links are those of the entry's mode where there is one goal
-pub plain-goal : (s : List ℕ) (e : ℕ) {g : Bool} → g ≡ edgesFrom s e (goalOf s) 0 → takesTurns s ≡ false → g ≡ isGoal s e
-unfolding edgesFrom isGoal
-plain-goal s e p one = p ∙ every-same (linksOf s) _ _ (λ l _. ap (leb (upperOf s (cellOf s e) l)) (sym (one-goal-layout s one .goal (modeOf s e) l)))
+  pub goal-in-row : {row : GoalRow} (l : ℕ) {r : ℕ} → GoalsIn s e row → r ≡ u16At s (row .first + row .apart * l) → r ≡ goalFor s (modeOf s e) l
+  goal-in-row l R p = p ∙ R .goal-is l
+
+  -- the offsets of a row are small
+  pub row-most : {row : GoalRow} {links l : ℕ} → GoalsIn s e row → links ≤ 8 → l < links → row .apart * l ≤ 14 * 8
+  row-most R few lt = product-most 14 8 (R .apart-most) (omega arith)
+
+  pub goals-in-links : {size : ℕ} {at : Where} → WhereOf s at → at .«mode_size» ≡ plainModeSize → size ≡ linkSize s → size ≤ 14
+      → GoalsIn s e (record { first = 19; apart = size })
+  goals-in-links {size} W same is most =
+      let one = plain-size s (sym (W .size-is) ∙ same) in
+      record {
+        first-most = omega arith;
+        apart-most = most;
+        goal-is = λ l.
+            let same : 19 + size * l ≡ linkAt s l + 10 = rw is (omega arith) in
+            ap (u16At s) same ∙ sym (one-goal-layout s one .goal (modeOf s e) l);
+      }
 
 -- the rank is 0 exactly at the goal
 same-test : (z g : Bool) → Bool·beq z g ≡ cond z g (not g)

@@ -86,10 +86,10 @@ module _ (s : List ℕ) where
       go l false e = L .no-place l (ltb-false _ _ e)
 
   -- the layout, from the counts of HD and from the grid records
-  pub laid-out : {starts : Starts} {places : List ℕ} {stop cells links turns signals modes boxes entries first-entry : ℕ}
+  pub laid-out : {starts : Starts} {places : List ℕ} {stop cells links turns signals modes boxes entries first-entry : ℕ} {place : Place}
       → HeaderFacts s → StartsOf s starts → GridsLaid s (linksOf s) places stop cells
       → links ≡ linksOf s → turns ≡ turnsOf s → signals ≡ signalsOf s → modes ≡ modesOf s → boxes ≡ boxesOf s → entries ≡ entriesOf s
-      → first-entry ≡ stop + arrivalSize links * boxes
+      → first-entry ≡ stop + arrivalSize links * boxes → Placed s place
       → LaidOut s
       (record {
         links = links;
@@ -101,17 +101,18 @@ module _ (s : List ℕ) where
         «turns_start» = starts .turns;
         «signals_start» = starts .signals;
         «modes_start» = starts .modes;
+        «mode_size» = place .size;
         grids = places;
         «arrivals_start» = stop;
         «entries_start» = first-entry;
         cells = cells;
       })
   unfolding arrivalsStart entriesStart
-  laid-out {starts} {places} {stop} {cells} {links} {turns} {signals} {modes} {boxes} {entries} H S L el et es em eb ee ef =
+  laid-out {starts} {places} {stop} {cells} {links} {turns} {signals} {modes} {boxes} {entries} H S L el et es em eb ee ef P =
       let few : links ≤ 8 = omega (arith, H .links-most) in
       let far : arrivalSize links * boxes ≤ 8704 = box-offset links boxes few (omega (arith, H .boxes-most)) in
       record {
-        is = rw (ef, el, et, es, em, eb, ee, S .turns-is, S .signals-is, S .modes-is, L .end-is, L .cells-are, places-are L);
+        is = rw (ef, el, et, es, em, eb, ee, S .turns-is, S .signals-is, S .modes-is, P .size-is, L .end-is, L .cells-are, places-are L);
         links-are = el;
         links-least = omega (arith, H .links-least);
         links-most = few;
@@ -135,6 +136,8 @@ module _ (s : List ℕ) where
         signals-start-most = omega (arith, S .signals-most);
         modes-start-is = S .modes-is;
         modes-start-most = omega (arith, S .modes-most);
+        mode-size-is = P .size-is;
+        mode-size-most = P .size-most;
         grid-is = L .place;
         grid-most = λ l lt. omega (arith, grid-end s l lt, L .end-is, L .end-most);
         arrivals-start-is = L .end-is;

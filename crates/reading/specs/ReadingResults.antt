@@ -10,11 +10,12 @@ use Rattle.reading.specs.declared.Reading.{Reading}
 use Rattle.reading.specs.declared.Starts.{Starts}
 use Rattle.certificate.specs.Loops.{pick}
 use Rattle.certificate.specs.Checks.{orElse}
-use Rattle.certificate.specs.Layout.{maxLinks, maxTurns, maxSignals, maxModes, maxBoxes, maxEntries, maxCells, linksOf, turnsOf, signalsOf, modesOf, boxesOf, entriesOf, turnsStart, signalsStart, modesStart, gridStart, gridAt, cellsOf, arrivalsStart, entriesStart}
+use Rattle.certificate.specs.Layout.{maxLinks, maxTurns, maxSignals, maxModes, maxBoxes, maxEntries, maxCells, linksOf, turnsOf, signalsOf, modesOf, boxesOf, entriesOf, turnsStart, signalsStart, modesStart, modeSize, gridStart, gridAt, cellsOf, arrivalsStart, entriesStart}
 use Rattle.certificate.specs.Records.{endFault}
 use Rattle.certificate.specs.Reading.{linksFault, turnsFault, signalsFault, modesFault, gridsFault, arrivalsFault, entriesFault}
 use Rattle.octets.specs.Tables.{tableOf}
 use Rattle.octets.specs.Bounds.{gridsBound, startBound}
+use Rattle.mode_records.specs.Placed.{sizeBound}
 
 -- where the records of turns, signals, modes and grids begin
 pub record StartsOf (s : List ℕ) (starts : Starts) : Type 0 where
@@ -44,6 +45,7 @@ layoutOf s =
       «turns_start» = turnsStart s;
       «signals_start» = signalsStart s;
       «modes_start» = modesStart s;
+      «mode_size» = modeSize s;
       grids = tableOf maxLinks (gridPlace s);
       «arrivals_start» = arrivalsStart s;
       «entries_start» = entriesStart s;
@@ -76,6 +78,8 @@ pub record LaidOut (s : List ℕ) (layout : Layout) : Type 0 where
   pub signals-start-most : layout .«signals_start» ≤ startBound
   pub modes-start-is : layout .«modes_start» ≡ modesStart s
   pub modes-start-most : layout .«modes_start» ≤ startBound
+  pub mode-size-is : layout .«mode_size» ≡ modeSize s
+  pub mode-size-most : layout .«mode_size» ≤ sizeBound
   pub grid-is : (l : ℕ) → l < linksOf s → getD (layout .grids) l 0 ≡ gridAt s l
   pub grid-most : (l : ℕ) → l < linksOf s → gridAt s l ≤ startBound
   pub arrivals-start-is : layout .«arrivals_start» ≡ arrivalsStart s
@@ -99,6 +103,7 @@ noLayout =
       «turns_start» = 0;
       «signals_start» = 0;
       «modes_start» = 0;
+      «mode_size» = 0;
       grids = replicate maxLinks 0;
       «arrivals_start» = 0;
       «entries_start» = 0;

@@ -19,7 +19,7 @@ use road_records::links;
 use signal_records::signals;
 use turn_records::turns;
 
-// What a readable certificate holds how many of, and where its records stand: in `grids` 0 for a link that there is not.
+// What a readable certificate holds how many of, where its records stand, and how long the records of modes are: in `grids` 0 for a link that there is not.
 pub struct Layout {
     pub links: usize,
     pub turns: usize,
@@ -30,6 +30,7 @@ pub struct Layout {
     pub turns_start: usize,
     pub signals_start: usize,
     pub modes_start: usize,
+    pub mode_size: usize,
     pub grids: [usize; limits::MAX_LINKS],
     pub arrivals_start: usize,
     pub entries_start: usize,
@@ -65,6 +66,7 @@ pub fn refused(report: Report) -> Reading
         turns_start: 0,
         signals_start: 0,
         modes_start: 0,
+        mode_size: 0,
         grids: [0usize; limits::MAX_LINKS],
         arrivals_start: 0,
         entries_start: 0,
@@ -127,6 +129,7 @@ fn lay_out(s: &[u8], starts: Starts, found: grids::Grids) -> Layout
     let links = header_record::links_of(s);
     let boxes = header_record::boxes_of(s);
     let places = found.places;
+    let place = modes::place_of(s, starts.modes);
     Layout {
         links,
         turns: header_record::turns_of(s),
@@ -137,6 +140,7 @@ fn lay_out(s: &[u8], starts: Starts, found: grids::Grids) -> Layout
         turns_start: starts.turns,
         signals_start: starts.signals,
         modes_start: starts.modes,
+        mode_size: place.size,
         grids: places,
         arrivals_start: found.end,
         entries_start: arrivals::arrival_at(found.end, links, boxes),

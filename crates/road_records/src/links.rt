@@ -10,7 +10,7 @@ use certificate::Report;
 use certificate::limits;
 
 // The size of a link's record, by whether the kind is H2 or H3.
-fn size_for(s: &[u8], memory: bool) -> usize
+pub fn size_for(s: &[u8], memory: bool) -> usize
     requires { ⌜ memory ≡ remembers (now s) ⌝ }
     ensures { λ r. ⌜ (r ≡ linkSize (now (s .entry))) × (plainLinkSize ≤ r) × (r ≤ maxLinkSize) ⌝ }
 {

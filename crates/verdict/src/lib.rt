@@ -71,8 +71,9 @@ fn judge_entry(
     let lower = cell.lower;
     let upper = cell.upper;
     let at = entry_standing::Where {
-        links: tables.links,
+        links: layout.links,
         modes_start: layout.modes_start,
+        mode_size: layout.mode_size,
         entries_start: layout.entries_start,
     };
     let f = entry_standing::check_standing(s, at, e, task.rank, &upper, count);

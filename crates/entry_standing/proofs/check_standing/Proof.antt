@@ -5,6 +5,9 @@ use borrow.Author.Needs.{needs}
 use Rattle.entry_standing.proofs.check_standing.Statement.{statement}
 use Rattle.entry_standing.proofs.check_standing.Tie as tie
 
+goal-row-requires : tie.Need-goal-row-requires
+goal-row-requires c κs = search needs
+
 cell-fits-requires : tie.Need-cell-fits-requires
 cell-fits-requires c κs = search needs
 
@@ -14,9 +17,6 @@ report-requires c κs = search needs
 returns : tie.Need-returns
 unfolding standingFault
 returns c = search cases depth 9
-
-at-goal-requires : tie.Need-at-goal-requires
-at-goal-requires c κs = search needs
 
 rank-fits-requires : tie.Need-rank-fits-requires
 rank-fits-requires c κs = search needs
@@ -39,10 +39,10 @@ pub check-standing-spec : {M : Type 1} → statement M
 check-standing-spec =
     tie.close
     (tie.spec
+    goal-row-requires
     cell-fits-requires
     report-requires
     returns
-    at-goal-requires
     rank-fits-requires
     report-requires-2
     returns-2

@@ -10,6 +10,9 @@ links-of-requires c κs = search needs
 boxes-of-requires : tie.Need-boxes-of-requires
 boxes-of-requires c κs = search needs
 
+place-of-requires : tie.Need-place-of-requires
+place-of-requires c κs = search needs
+
 turns-of-requires : tie.Need-turns-of-requires
 turns-of-requires c κs = search needs
 
@@ -34,6 +37,7 @@ lay-out-spec =
     (tie.spec
     links-of-requires
     boxes-of-requires
+    place-of-requires
     turns-of-requires
     signals-of-requires
     modes-of-requires

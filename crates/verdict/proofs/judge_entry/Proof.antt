@@ -24,10 +24,12 @@ check-standing-requires c κs = let p = c .before .before .before .before .befor
     let K = c .before .before .before .before .before .task-of .ensures in
     let R = T .screened .readable in (
       record {
-        links-are = T .grid .link;
-        links-most = omega (arith, T .grid .link, R .header .links-most);
+        links-are = p .0 .links-are;
+        links-most = p .0 .links-most;
         modes-is = p .0 .modes-start-is;
         modes-most = p .0 .modes-start-most;
+        size-is = p .0 .mode-size-is;
+        size-most = p .0 .mode-size-most;
         entries-is = p .0 .entries-start-is;
         entries-most = p .0 .entries-start-most;
       },

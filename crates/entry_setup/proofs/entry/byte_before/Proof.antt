@@ -14,9 +14,6 @@ returns c = search own-byte
 mode-of-requires : tie.Need-mode-of-requires
 mode-of-requires c κs = search needs
 
-place-of-requires : tie.Need-place-of-requires
-place-of-requires c κs = search needs
-
 shown-before-requires : tie.Need-shown-before-requires
 shown-before-requires c κs = (search needs, search needs, search not-no)
 
@@ -33,7 +30,6 @@ byte-before-spec =
     has-memory-requires
     returns
     mode-of-requires
-    place-of-requires
     shown-before-requires
     green-byte-of-requires
     returns-2)
