@@ -21,6 +21,13 @@ entryOf cell rank = 0x45 ∷ 0x4E ∷ 0x00 ∷ cell ∷ 0x00 ∷ 0x00 ∷ 0x00 �
 abbrev pub paperOne : List ℕ
 paperOne = paperL 3 10 2 (entryOf 0 0 ++ entryOf 1 1 ++ entryOf 2 2)
 
+-- with a second arrival box, of 0 to 1
+abbrev pub paperTwoBoxes : List ℕ
+paperTwoBoxes =
+    (0x48 ∷ 0x44 ∷ 1 ∷ 0 ∷ 1 ∷ 1 ∷ 2 ∷ 0 ∷ 3 ∷ []) ++ (0x4C ∷ 0x4B ∷ 0 ∷ 1 ∷ 0 ∷ 10 ∷ 0 ∷ 6 ∷ 0 ∷ 10 ∷ 0 ∷ 5 ∷ []) ++ (0x53 ∷ 0x47 ∷ 0b1 ∷ [])
+    ++ (0x47 ∷ 0x52 ∷ 3 ∷ 0 ∷ 5 ∷ 0 ∷ 8 ∷ []) ++ (0x41 ∷ 0x52 ∷ 0 ∷ 0 ∷ 0 ∷ 2 ∷ []) ++ (0x41 ∷ 0x52 ∷ 0 ∷ 0 ∷ 0 ∷ 1 ∷ [])
+    ++ entryOf 0 0 ++ entryOf 1 1 ++ entryOf 2 2 ++ (0x5A ∷ 0x5A ∷ [])
+
 -- P2: arrivals high 3
 abbrev pub paperTwo : List ℕ
 paperTwo = paperL 3 10 3 (entryOf 0 0 ++ entryOf 1 1 ++ entryOf 2 2)
@@ -79,21 +86,28 @@ redLink =
     ++ (0x4C ∷ 0x4B ∷ 0 ∷ 1 ∷ 0 ∷ 10 ∷ 0 ∷ 10 ∷ 0 ∷ 10 ∷ 0 ∷ 10 ∷ [])
     ++ (0x53 ∷ 0x47 ∷ 0b0 ∷ []) ++ whole ++ (0x41 ∷ 0x52 ∷ 0 ∷ 2 ∷ 0 ∷ 2 ∷ []) ++ oneEntry
 
--- P9: links 0 and 1 green, each with a turn of share 100 to link 2, of the given pulls
-abbrev pub twoIn : ℕ → ℕ → List ℕ
-twoIn first second =
+-- P9: links 0 and 1, each with a turn of share 100 to link 2, of the given pulls, under the signal of the given byte; P9 has both green
+abbrev pub twoInUnder : ℕ → ℕ → ℕ → List ℕ
+twoInUnder green first second =
     (0x48 ∷ 0x44 ∷ 3 ∷ 2 ∷ 1 ∷ 1 ∷ 1 ∷ 0 ∷ 1 ∷ []) ++ link40 0 1 ++ link40 0 1 ++ link40 1 2
     ++ turnOf 0 2 100 first ++ turnOf 1 2 100 second
-    ++ (0x53 ∷ 0x47 ∷ 0b011 ∷ []) ++ whole ++ whole ++ whole ++ noArrivals 12 ++ oneEntry
+    ++ (0x53 ∷ 0x47 ∷ green ∷ []) ++ whole ++ whole ++ whole ++ noArrivals 12 ++ oneEntry
 
--- P11: link 0 green, turns to red links 1 and 2. Cell 9 of 18 takes 10 to 11 of link 0, 20 to 21 of link 1 and 20 to 40 of link 2
-abbrev pub fork : List ℕ
-fork =
+abbrev pub twoIn : ℕ → ℕ → List ℕ
+twoIn first second = twoInUnder 0b011 first second
+
+-- P11: link 0 green, turns to red links 1 and 2, of the given shares; P11 has 50 and 50. Cell 9 of 18 takes 10 to 11 of link 0, 20 to 21 of link 1
+-- and 20 to 40 of link 2
+abbrev pub forkOf : ℕ → ℕ → List ℕ
+forkOf first second =
     (0x48 ∷ 0x44 ∷ 3 ∷ 2 ∷ 1 ∷ 1 ∷ 1 ∷ 0 ∷ 1 ∷ []) ++ link40 0 1 ++ link40 1 2 ++ link40 1 3
-    ++ turnOf 0 1 50 34 ++ turnOf 0 2 50 34
+    ++ turnOf 0 1 first 34 ++ turnOf 0 2 second 34
     ++ (0x53 ∷ 0x47 ∷ 0b001 ∷ [])
     ++ (0x47 ∷ 0x52 ∷ 3 ∷ 0 ∷ 10 ∷ 0 ∷ 11 ∷ []) ++ (0x47 ∷ 0x52 ∷ 3 ∷ 0 ∷ 20 ∷ 0 ∷ 21 ∷ []) ++ (0x47 ∷ 0x52 ∷ 2 ∷ 0 ∷ 20 ∷ [])
     ++ noArrivals 12 ++ oneEntry
+
+abbrev pub fork : List ℕ
+fork = forkOf 50 50
 
 -- P6 as H2 with start flows of 4: signal 1 has no green link
 abbrev pub twoLinksStart : List ℕ
@@ -134,3 +148,45 @@ paperTurns next =
     ++ (0x47 ∷ 0x52 ∷ 3 ∷ 0 ∷ 5 ∷ 0 ∷ 8 ∷ []) ++ (0x41 ∷ 0x52 ∷ 0 ∷ 0 ∷ 0 ∷ 2 ∷ [])
     ++ greenEntry 0 0 next 0 ++ greenEntry 0 1 0 0 ++ greenEntry 1 0 0 1 ++ greenEntry 1 1 0 0 ++ greenEntry 2 0 0 2 ++ greenEntry 2 1 1 1
     ++ (0x5A ∷ 0x5A ∷ [])
+
+-- three modes that take turns with goals 5, 8 and 10: the next modes of rank 0 are given for modes 0, 1 and 2
+abbrev pub paperThreeGoals : ℕ → ℕ → ℕ → List ℕ
+paperThreeGoals a b c =
+    (0x48 ∷ 0x33 ∷ 1 ∷ 0 ∷ 1 ∷ 3 ∷ 1 ∷ 0 ∷ 9 ∷ []) ++ startLink oneLink 6 ++ (0x53 ∷ 0x47 ∷ 0b1 ∷ []) ++ goalMode 0 5 ++ goalMode 1 8 ++ goalMode 2 10
+    ++ (0x47 ∷ 0x52 ∷ 3 ∷ 0 ∷ 5 ∷ 0 ∷ 8 ∷ []) ++ (0x41 ∷ 0x52 ∷ 0 ∷ 0 ∷ 0 ∷ 2 ∷ [])
+    ++ greenEntry 0 0 a 0 ++ greenEntry 0 1 b 0 ++ greenEntry 0 2 c 0
+    ++ greenEntry 1 0 0 1 ++ greenEntry 1 1 b 0 ++ greenEntry 1 2 c 0
+    ++ greenEntry 2 0 0 2 ++ greenEntry 2 1 1 1 ++ greenEntry 2 2 c 0
+    ++ (0x5A ∷ 0x5A ∷ [])
+
+-- P7 with two modes, one entry each
+abbrev pub redLinkTwice : List ℕ
+redLinkTwice =
+    (0x48 ∷ 0x44 ∷ 1 ∷ 0 ∷ 1 ∷ 2 ∷ 1 ∷ 0 ∷ 2 ∷ [])
+    ++ (0x4C ∷ 0x4B ∷ 0 ∷ 1 ∷ 0 ∷ 10 ∷ 0 ∷ 10 ∷ 0 ∷ 10 ∷ 0 ∷ 10 ∷ [])
+    ++ (0x53 ∷ 0x47 ∷ 0b0 ∷ []) ++ whole ++ (0x41 ∷ 0x52 ∷ 0 ∷ 2 ∷ 0 ∷ 2 ∷ []) ++ greenEntry 0 0 0 0 ++ greenEntry 0 1 1 0 ++ (0x5A ∷ 0x5A ∷ [])
+
+-- the worked example of README: two links of cap 40 and flow 12 in a row, safe 30, goal 10, each cut at 10, 20 and 30
+abbrev pub exampleLink : ℕ → ℕ → List ℕ
+exampleLink tail head = 0x4C ∷ 0x4B ∷ tail ∷ head ∷ 0 ∷ 40 ∷ 0 ∷ 12 ∷ 0 ∷ 30 ∷ 0 ∷ 10 ∷ []
+
+abbrev pub exampleEntry : ℕ → ℕ → ℕ → List ℕ
+exampleEntry cell signal rank = 0x45 ∷ 0x4E ∷ 0 ∷ cell ∷ 0 ∷ signal ∷ 0 ∷ 0 ∷ rank ∷ []
+
+abbrev pub exampleGrid : List ℕ
+exampleGrid = 0x47 ∷ 0x52 ∷ 4 ∷ 0 ∷ 10 ∷ 0 ∷ 20 ∷ 0 ∷ 30 ∷ []
+
+abbrev pub twoJunctions : List ℕ
+twoJunctions =
+    (0x48 ∷ 0x44 ∷ 2 ∷ 1 ∷ 2 ∷ 1 ∷ 1 ∷ 0 ∷ 9 ∷ []) ++ exampleLink 0 1 ++ exampleLink 1 2 ++ turnOf 0 1 50 150
+    ++ (0x53 ∷ 0x47 ∷ 0b11 ∷ []) ++ (0x53 ∷ 0x47 ∷ 0b10 ∷ []) ++ exampleGrid ++ exampleGrid
+    ++ (0x41 ∷ 0x52 ∷ 0 ∷ 0 ∷ 0 ∷ 1 ∷ 0 ∷ 0 ∷ 0 ∷ 1 ∷ [])
+    ++ exampleEntry 0 0 0 ++ exampleEntry 1 1 2 ++ exampleEntry 2 1 4 ++ exampleEntry 4 0 1 ++ exampleEntry 5 1 3 ++ exampleEntry 6 1 5
+    ++ exampleEntry 8 0 2 ++ exampleEntry 9 0 4 ++ exampleEntry 10 0 6 ++ (0x5A ∷ 0x5A ∷ [])
+
+-- its poll: 3 vehicles and fault 07 on link 0, a reading of the given first two bytes and 12.5 on link 1
+abbrev pub queueBytes : ℕ → ℕ → List ℕ
+queueBytes high next = 0 ∷ high ∷ next ∷ 0 ∷ 0 ∷ 0 ∷ 0 ∷ 0 ∷ 0 ∷ []
+
+abbrev pub examplePoll : ℕ → ℕ → List ℕ
+examplePoll high next = queueBytes 0x40 0x08 ++ (1 ∷ 0x07 ∷ 0 ∷ 0 ∷ 0 ∷ 0 ∷ 0 ∷ 0 ∷ 0 ∷ []) ++ queueBytes high next ++ queueBytes 0x40 0x29

@@ -11,7 +11,7 @@ use lib.Dec.{leb}
 use Rattle.certificate.specs.declared.Report.{Report}
 use Rattle.certificate.specs.Checks.{refusal, fine, need, orElse, firstBad}
 use Rattle.certificate.specs.Layout.{gridSize, fromOf, toOf, gridAt, intervalsOf, entryAt, cellOf, modeOf, endSize, endAt}
-use Rattle.certificate.specs.Records.{headerMarked, headerFault, linkFault, turnAscends, turnFault, signalFault, modeFault, cutFault, countOk, gridFault, rangeFault, arrivalFault, entryAscends, namesExist, entryFault, endFault}
+use Rattle.certificate.specs.Records.{headerMarked, headerFault, linkFault, turnAscends, shareTotal, turnFault, signalFault, modeFault, cutFault, countOk, gridFault, rangeFault, arrivalFault, entryAscends, namesExist, entryFault, endFault}
 use Rattle.certificate.specs.Facts.{Mark, GridFacts, EntryFacts}
 use Rattle.certificate.specs.Due.{Kind, HD, LK, TN, SG, MD, GR, AR, EN, ZZ, fieldNumber, recordAt, Marked, CountFacts, Whole, Line, TooShort, WrongMark}
 use Rattle.certificate.proofs.Tests.{need-pass, or-next, or-stop, or-both, both-or, passes, all-fine, fine-all, first-bad}
@@ -70,7 +70,7 @@ counted : {s : List ℕ} {l : ℕ} → GridFacts s l → CountFacts s l
 counted g = record { least = g .count-least; most = g .count-most; product = g .product-most }
 
 pub record-says : (s : List ℕ) (k : Kind) (i : ℕ) → (faultOf s k i .number ≡ 0) ↔ Passes s k i
-unfolding turnAscends entryAscends
+unfolding turnAscends entryAscends shareTotal
 record-says s HD i = header-says s
 record-says s LK i = link-says s i
 record-says s TN i =

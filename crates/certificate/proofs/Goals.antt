@@ -13,6 +13,7 @@ use Rattle.certificate.specs.Layout.{maxGoalNumber, linksOf, modesOf, ta
 use Rattle.certificate.specs.Records.{goalsSafe, sameGoals, goalsAgree, isUsed, noGap, goalsOk, turnsOn}
 use Rattle.certificate.specs.Facts.{SameGoals, Used, NumbersUsed, TurnsOn}
 use Rattle.certificate.specs.Due.{GoalsAgree}
+use Rattle.certificate.specs.Laws.{GoalsInOrder}
 use Rattle.certificate.proofs.Tests.{also-both, both-also}
 use Rattle.certificate.proofs.Loops.{any-some, some-any, every-each, each-every}
 use Rattle.certificate.proofs.KindLaws.{none-greater, one-goal-layout}
@@ -23,7 +24,7 @@ implies-says true b = ((λ e _. e), (λ h. h refl))
 implies-says false b = ((λ e k. absurd (false≢true k)), (λ h. refl))
 
 -- the greatest of some numbers is one of them
-attained : (n : ℕ) (f : ℕ → ℕ) → 1 ≤ n → (k : ℕ) × (k < n) × (f k ≡ greatestTo n f)
+pub attained : (n : ℕ) (f : ℕ → ℕ) → 1 ≤ n → (k : ℕ) × (k < n) × (f k ≡ greatestTo n f)
 unfolding greatestTo
 attained zero f h = absurd (omega arith)
 attained (suc n) f h = go (leb (greatestTo n f) (f n)) refl (attained n f)
@@ -147,3 +148,12 @@ module _ (s : List ℕ) where
           go : (b : Bool) → leb k m ≡ b → goalFor s k l ≡ goalFor s m l
           go true q = ⊎-elim (λ (x : k ≡ m). rw x refl) (λ lt. h m lm k lt same l ll) (eq-or-lt-of-le (leb-true _ _ q))
           go false q = sym (h k lk m (leb-false _ _ q) (sym same) l ll)
+
+pub goals-in-order : GoalsInOrder
+unfolding nextGoal greatestGoal
+goals-in-order s =
+    record {
+      most = λ m lt. at-most-greatest (modesOf s) (goalNumberOf s) m lt;
+      on = λ n lt. let other : n ≡ greatestTo (modesOf s) (goalNumberOf s) → ⊥ = λ e. absurd (omega arith) in rw (ne-eqb _ _ other);
+      wraps = rw (eq-eqb (greatestTo (modesOf s) (goalNumberOf s)) (greatestTo (modesOf s) (goalNumberOf s)) refl);
+    }

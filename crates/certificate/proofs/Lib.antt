@@ -4,6 +4,8 @@ pub mod Loops
 pub mod Says
 pub mod Ascending
 pub mod Shares
+pub mod LimitLaws
+pub mod BitLaws
 pub mod KindSizes
 pub mod KindLaws
 pub mod Goals

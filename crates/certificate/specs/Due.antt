@@ -5,8 +5,9 @@ use mathlib.Core.List.{List}
 use mathlib.Core.Logic.{_⊎_}
 use mathlib.Core.Path.{_≡_}
 use lib.ListN.{length}
-use Rattle.certificate.specs.Layout.{maxShare, maxIntervals, maxCells, headerSize, linkSize, turnSize, signalSize, modeSize, gridSize, arrivalSize, entrySize, endSize, linksOf, turnsOf, signalsOf, modesOf, boxesOf, entriesOf, remembers, linkAt, turnAt, fromOf, toOf, signalAt, modeRecordsOf, modeAt, shownBefore, goalNumberOf, nextGoal, gridAt, intervalsOf, productOf, cellsOf, arrivalAt, entryAt, cellOf, modeOf, signalOf, nextModeOf, rankOf, endAt}
-use Rattle.certificate.specs.Records.{shareTotal}
+use lib.Dec.{eqb}
+use Rattle.certificate.specs.Loops.{pick, sumTo}
+use Rattle.certificate.specs.Layout.{maxShare, maxIntervals, maxCells, headerSize, linkSize, turnSize, signalSize, modeSize, gridSize, arrivalSize, entrySize, endSize, linksOf, turnsOf, signalsOf, modesOf, boxesOf, entriesOf, remembers, linkAt, turnAt, fromOf, toOf, shareOf, signalAt, modeRecordsOf, modeAt, shownBefore, goalNumberOf, nextGoal, gridAt, intervalsOf, productOf, cellsOf, arrivalAt, entryAt, cellOf, modeOf, signalOf, nextModeOf, rankOf, endAt}
 use Rattle.certificate.specs.Facts.{Mark, HeaderMark, HeaderFacts, LinkFacts, PairBelow, TurnFacts, SignalFacts, ModeFacts, SameGoals, NumbersUsed, GridFacts, BoxFacts, EntryFacts, PassesOn, TurnsOn}
 
 -- The kinds of records. HD is the first one, whether its mark is HD, H2 or H3.
@@ -104,11 +105,15 @@ Above f g i = (h : ℕ) → h + 1 ≡ i → PairBelow (f h) (g h) (f i) (g i)
 abbrev pub GoalsAgree : List ℕ → ℕ → Type 0
 GoalsAgree s m = (k : ℕ) → k < m → goalNumberOf s k ≡ goalNumberOf s m → SameGoals s k m
 
+-- the shares from the link of turn t, up to that turn, total at most 100
+abbrev pub SharesFit : List ℕ → ℕ → Type 0
+SharesFit s t = sumTo (t + 1) (λ u. pick (eqb (fromOf s u) (fromOf s t)) (shareOf s u) 0) ≤ maxShare
+
 -- it is as its line of document 01 says, the mark included. The last MD answers for the goal numbers used.
 abbrev pub Line : List ℕ → Kind → ℕ → Type 0
 Line s HD i = HeaderFacts s
 Line s LK i = LinkFacts s i
-Line s TN i = TurnFacts s i × Above (fromOf s) (toOf s) i × (shareTotal s i ≤ maxShare)
+Line s TN i = TurnFacts s i × Above (fromOf s) (toOf s) i × SharesFit s i
 Line s SG i = SignalFacts s i
 Line s MD i = ModeFacts s i × GoalsAgree s i × (i + 1 ≡ modesOf s → NumbersUsed s)
 Line s GR i = GridFacts s i

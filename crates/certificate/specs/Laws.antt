@@ -1,18 +1,43 @@
 -- What is proved of reading (proofs/ of this crate). Statements only.
-use Prim.Native.Nat.{ℕ, _+_, _*_, _≤_, _<_}
+use Prim.Native.Nat.{ℕ, _+_, _*_, _^_, _≤_, _<_}
 use mathlib.Core.Bool.{true, false}
 use mathlib.Core.List.{List}
 use mathlib.Core.Path.{_≡_}
 use mathlib.Core.Logic.{_↔_, _⊎_}
 use lib.ListN.{length, take}
+use Rattle.certificate.specs.Octets.{bitOf}
+use Rattle.certificate.specs.Loops.{pick, sumTo}
 use Rattle.certificate.specs.declared.Report.{Report}
-use Rattle.certificate.specs.Layout.{maxLength, headerSize, plainLinkSize, plainModeSize, endSize, signalsOf, remembers, takesTurns, linkAt, flowOf, goalOf, startFlowOf, signalAt, modeSize, goalNumberOf, goalFor, gridStart, cellsOf, maxCells, entryAt, endAt}
+use Rattle.certificate.specs.Layout.{maxLinks, maxTurns, maxSignals, maxModes, maxBoxes, maxEntries, maxCap, maxShare, maxPull, maxPullSum, maxArrival, maxIntervals, maxGoalNumber, maxScale, maxLength, headerSize, plainLinkSize, plainModeSize, endSize, signalsOf, remembers, takesTurns, linkAt, flowOf, goalOf, startFlowOf, signalAt, modeSize, goalNumberOf, goalFor, greatestGoal, nextGoal, modesOf, gridStart, cellsOf, maxCells, entryAt, endAt}
 use Rattle.certificate.specs.Records.{passesOn, turnsOn}
 use Rattle.certificate.specs.Reading.{readingOf}
 use Rattle.certificate.specs.Checks.{result, fine}
 use Rattle.certificate.specs.Facts.{Mark, Readable}
 use Rattle.certificate.specs.Fields.{Stand, certificateFields}
 use Rattle.certificate.specs.Due.{Kind, HD, LK, TN, SG, MD, GR, AR, EN, ZZ, fieldNumber, recordAt, Due, TooShort, WrongMark, BrokenLine, MissingName, WrongOrder, OtherSignal, OtherGoal}
+
+-- the limits of the format, in the numbers of documents 01 and 02; the greatest length is what they come to
+pub record LimitsAre : Type 0 where
+  pub links : maxLinks ≡ 8
+  pub turns : maxTurns ≡ 32
+  pub signals : maxSignals ≡ 16
+  pub modes : maxModes ≡ 8
+  pub boxes : maxBoxes ≡ 8
+  pub entries : maxEntries ≡ 4096
+  pub cap : maxCap ≡ 10000
+  pub share : maxShare ≡ 100
+  pub pull : maxPull ≡ 10000
+  pub pulls : maxPullSum ≡ 10000
+  pub arrival : maxArrival ≡ 10000
+  pub intervals : maxIntervals ≡ 15
+  pub cells : maxCells ≡ 4096
+  pub goal-number : maxGoalNumber ≡ 7
+  pub scale : maxScale ≡ 100000
+  pub length : maxLength ≡ 37939
+
+-- a number below 2 to the n is the sum of the values of its bits, 2 to the i for bit i
+abbrev pub BitsAre : Type 0
+BitsAre = (n x : ℕ) → x < 2 ^ n → x ≡ sumTo n (λ i. pick (bitOf x i) (2 ^ i) 0)
 
 -- reading finds nothing to refuse exactly if every line of the layout holds
 abbrev pub ReadingIsPlain : Type 0
@@ -69,6 +94,15 @@ pub record OneGoal (s : List ℕ) : Type 0 where
 
 abbrev pub OneGoalLayout : Type 0
 OneGoalLayout = (s : List ℕ) → takesTurns s ≡ false → OneGoal s
+
+-- goals in turn: no mode has a number above the greatest, the next number is one on, and 0 comes after the greatest
+pub record InOrder (s : List ℕ) : Type 0 where
+  pub most : (m : ℕ) → m < modesOf s → goalNumberOf s m ≤ greatestGoal s
+  pub on : (n : ℕ) → n < greatestGoal s → nextGoal s n ≡ n + 1
+  pub wraps : nextGoal s (greatestGoal s) ≡ 0
+
+abbrev pub GoalsInOrder : Type 0
+GoalsInOrder = (s : List ℕ) → InOrder s
 
 -- the numbers of reading: 0 for success, and refusals 1 to 9, 22, 23 and 24
 pub data ReadingNumber (n : ℕ) : Type 0 where

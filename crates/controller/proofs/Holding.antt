@@ -1,6 +1,6 @@
 -- When a state holds a certificate: a fresh one does not, and one that an accepted load made does. Assumes nothing.
 use Prim.Native.Nat.{ℕ, _≤_}
-use mathlib.Core.Path.{_≡_}
+use mathlib.Core.Path.{_≡_, refl}
 use native.Mathlib.Omega.{arith}
 use borrow.Author.Tests.{leb-true, le-leb, eqb-true, eq-eqb, ne-eqb}
 use lib.Seq.{take-append-seam}
@@ -12,7 +12,7 @@ use Rattle.judging.proofs.Verdicts.{accepted-is-plain}
 use Rattle.judging.proofs.Overflows.{accepted-overflows, refused-overflows}
 use Rattle.controller.specs.declared.Controller.{Controller}
 use Rattle.controller.specs.State.{holding, inMode, stored, isCertificate, loadOf}
-use Rattle.controller.specs.Laws.{HoldsCertificate, HoldsIsPlain, FreshHoldsNone, AcceptedHolds, LoadAccepted, LoadRefused}
+use Rattle.controller.specs.Laws.{HoldsCertificate, HoldsIsPlain, FreshInModeZero, FreshHoldsNone, AcceptedHolds, LoadAccepted, LoadRefused}
 
 pub holds-is-plain : HoldsIsPlain
 unfolding isCertificate
@@ -24,6 +24,9 @@ holds-is-plain c = (
 -- a certificate is held in every mode
 pub holds-in-mode : (c : Controller) (m : ℕ) → HoldsCertificate c → HoldsCertificate (inMode c m)
 holds-in-mode c m h = record { fits = h .fits; screened = h .screened }
+
+pub fresh-in-mode-zero : FreshInModeZero
+fresh-in-mode-zero = refl
 
 -- no bytes are stored, so there is not even a header
 pub fresh-holds-none : FreshHoldsNone

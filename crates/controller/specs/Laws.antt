@@ -19,7 +19,7 @@ use Rattle.runs.specs.Runs.{RunState, Step, start, InForce, entryIn, commonScal
 use Rattle.controller.specs.declared.Controller.{Controller}
 use Rattle.controller.specs.declared.Shown.{Shown}
 use Rattle.controller.specs.State.{freshState, holding, inMode, stored, holdsCertificate, loadOf}
-use Rattle.controller.specs.Query.{showing, refused, queryOf}
+use Rattle.controller.specs.Query.{queryOf}
 use Rattle.controller.specs.Write.{writeReport, writeBuffer}
 
 -- The state.
@@ -32,7 +32,10 @@ pub record HoldsCertificate (c : Controller) : Type 0 where
 abbrev pub HoldsIsPlain : Type 0
 HoldsIsPlain = (c : Controller) → (holdsCertificate c ≡ true) ↔ HoldsCertificate c
 
--- a fresh state holds none
+-- a fresh state is in mode 0 and holds none
+abbrev pub FreshInModeZero : Type 0
+FreshInModeZero = freshState .mode ≡ 0
+
 abbrev pub FreshHoldsNone : Type 0
 FreshHoldsNone = HoldsCertificate freshState → ⊥
 
@@ -86,7 +89,12 @@ QuerySucceeds =
 abbrev pub QueryShows : Type 0
 QueryShows =
     (c : Controller) (queues : List ℕ) (scale e : ℕ) → HoldsCertificate c → Proper (stored c) queues scale → ListsAsked c queues scale e
-    → queryOf c queues scale ≡ showing c e
+    → queryOf c queues scale ≡ record {
+      report = fine;
+      signal = signalOf (stored c) e;
+      green = greenByteOf (stored c) (signalOf (stored c) e);
+      state = record { bytes = c .bytes; len = c .len; mode = nextModeOf (stored c) e };
+    }
 
 -- what a successful query shows exists: the signal is one of the certificate's, the green byte is that signal's, the next mode is one of its modes
 pub record ShowsExisting (s : List ℕ) (shown : Shown) : Type 0 where
@@ -103,7 +111,7 @@ QueryExists =
 abbrev pub QueryRefused : Type 0
 QueryRefused =
     (c : Controller) (queues : List ℕ) (scale : ℕ) → (queryOf c queues scale .report .number ≡ 0 → ⊥)
-    → queryOf c queues scale ≡ refused c (refusal (queryOf c queues scale .report .number) 0)
+    → queryOf c queues scale ≡ record { report = refusal (queryOf c queues scale .report .number) 0; signal = 0; green = 0; state = c }
 
 -- the number is one of 0, 16, 18, 19
 abbrev pub QueryNumbers : Type 0

@@ -1,5 +1,6 @@
 // The controller: a state that holds one certificate and a mode, and the calls load, query and write.
 ghost use mathlib.Core.Path.{_≡_};
+ghost use Rattle.controller.specs.Limits.{formatLimits};
 ghost use Rattle.controller.specs.State.{freshState};
 use certificate::Report;
 use certificate::limits;
@@ -14,6 +15,26 @@ pub struct Controller {
     pub len: usize,
     pub bytes: [u8; Controller::SIZE],
     pub mode: u8,
+}
+
+// The limits of the format, by name.
+pub struct Limits {
+    pub links: usize,
+    pub turns: usize,
+    pub signals: usize,
+    pub modes: usize,
+    pub boxes: usize,
+    pub entries: usize,
+    pub intervals: usize,
+    pub cells: usize,
+    pub cap: usize,
+    pub share: usize,
+    pub pull: usize,
+    pub pulls: usize,
+    pub arrival: usize,
+    pub goals: usize,
+    pub length: usize,
+    pub scale: u32,
 }
 
 impl Controller {
@@ -44,11 +65,37 @@ impl Controller {
 
     pub const MAX_ARRIVAL: usize = limits::MAX_ARRIVAL;
 
+    pub const MAX_GOAL_NUMBER: usize = limits::MAX_GOAL_NUMBER;
+
     // The greatest length of a certificate.
     pub const SIZE: usize = limits::MAX_LENGTH;
 
     // The scales that a query may use: 1 to this.
     pub const MAX_SCALE: u32 = limits::MAX_SCALE;
+
+    // All of them in one value, so that each is proved to be the definition's.
+    pub fn limits() -> Limits
+        ensures { λ r. ⌜ r ≡ formatLimits ⌝ }
+    {
+        Limits {
+            links: Controller::MAX_LINKS,
+            turns: Controller::MAX_TURNS,
+            signals: Controller::MAX_SIGNALS,
+            modes: Controller::MAX_MODES,
+            boxes: Controller::MAX_BOXES,
+            entries: Controller::MAX_ENTRIES,
+            intervals: Controller::MAX_INTERVALS,
+            cells: Controller::MAX_CELLS,
+            cap: Controller::MAX_CAP,
+            share: Controller::MAX_SHARE,
+            pull: Controller::MAX_PULL,
+            pulls: Controller::MAX_PULL_SUM,
+            arrival: Controller::MAX_ARRIVAL,
+            goals: Controller::MAX_GOAL_NUMBER,
+            length: Controller::SIZE,
+            scale: Controller::MAX_SCALE,
+        }
+    }
 
     // The fresh state: mode 0, and no certificate.
     pub fn fresh() -> Controller

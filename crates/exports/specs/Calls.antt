@@ -3,6 +3,7 @@
 use Prim.Native.Nat.{ℕ}
 use mathlib.Core.List.{List}
 use mathlib.Core.Path.{_≡_}
+use Rattle.runs.specs.Claim.{RunClaim}
 use Rattle.controller.specs.State.{freshState, holding}
 use Rattle.controller.specs.Write.{writeReport, writeBuffer}
 use Rattle.listing_text.specs.Listing.{listReport, listBuffer}
@@ -19,10 +20,10 @@ ListCall s buffer buffer' out out' r =
 abbrev pub FreshCall : List ℕ → List ℕ → ℕ → Type 0
 FreshCall state state' r = (r ≡ freshReport state .number) × (state' ≡ bytesAfter (freshReport state .number) freshState state)
 
--- a load: the state holds its own copy
-abbrev pub LoadCall : List ℕ → List ℕ → List ℕ → List ℕ → List ℕ → ℕ → Type 0
-LoadCall s state state' out out' r =
-    Called (verdictNumbers (loadReport state s) (loadOverflows state s)) (bytesAfter (loadReport state s .number) (holding s) state) state state' out out' r
+-- a load: the state holds its own copy; every run of an accepted certificate keeps the run claim
+pub record LoadCall (s state state' out out' : List ℕ) (r : ℕ) : Type 0 where
+  pub called : Called (verdictNumbers (loadReport state s) (loadOverflows state s)) (bytesAfter (loadReport state s .number) (holding s) state) state state' out out' r
+  pub claim : r ≡ 0 → RunClaim s
 
 -- a query of the state that is held
 abbrev pub QueryCall : List ℕ → ℕ → List ℕ → List ℕ → List ℕ → List ℕ → ℕ → Type 0

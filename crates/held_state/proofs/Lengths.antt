@@ -22,7 +22,7 @@ use Rattle.controller.proofs.Writings.{write-empty, write-refused}
 use Rattle.held_state.specs.declared.Display.{Display}
 use Rattle.packed_state.specs.State.{stateSize, bytesAfter}
 use Rattle.held_state.specs.Held.{freshReport, loadReport, loadOverflows, displayOf, HeldFresh, HeldLoad, Displayed}
-use Rattle.held_state.specs.Laws.{OtherLengths}
+use Rattle.held_state.specs.Laws.{OtherLengths, RightLength}
 use Rattle.packed_state.proofs.Packing.{other-length, refusal-keeps, same-after}
 
 -- a fresh state's write
@@ -41,6 +41,11 @@ other-lengths state h =
       query = λ queues scale. rw (other-length state h) (none-held freshState queues scale fresh-holds-none);
       write = λ buffer start. rw (other-length state h) (fresh-writes buffer start);
     }
+
+pub right-length : RightLength
+right-length state h =
+    let yes = eq-eqb (length state) stateSize h in
+    record { fresh = need-pass _ _ _ yes; load = λ s. (need-pass _ _ _ yes, rw yes) }
 
 -- 18 leaves the bytes as they were
 unchanged : (state : List ℕ) (next : Controller) {due : Report} → due ≡ refusal 18 0 → state ≡ bytesAfter (due .number) next state
@@ -69,18 +74,18 @@ module _ (state : List ℕ) (fit : length state ≡ stateSize) where
   pub fresh-passes : (state' : List ℕ) (next : Controller) (r : Report) → next ≡ freshState → r ≡ fine → state' ≡ bytesAfter 0 next state
       → HeldFresh state state' r
   fresh-passes state' next r n e b =
-      let due : freshReport state ≡ fine = need-pass _ _ _ (eq-eqb (length state) stateSize fit) in
+      let due = right-length state fit .fresh in
       record { report = e ∙ sym due; bytes = rw (due, ← n) b }
 
   -- a load from any state
   module _ (s : List ℕ) (c : Controller) (loaded : Loaded) (l : loaded ≡ loadOf c s) where
     reports : loaded .report ≡ loadReport state s
     unfolding loadOf
-    reports = ap (λ (x : Loaded). x .report) l ∙ sym (need-pass _ _ _ (eq-eqb (length state) stateSize fit))
+    reports = ap (λ (x : Loaded). x .report) l ∙ sym (right-length state fit .load s .0)
 
     overflowing : loaded .overflows ≡ loadOverflows state s
     unfolding loadOf
-    overflowing = ap (λ (x : Loaded). x .overflows) l ∙ rw (eq-eqb (length state) stateSize fit)
+    overflowing = ap (λ (x : Loaded). x .overflows) l ∙ sym (right-length state fit .load s .1)
 
     holds : loaded .report .number ≡ 0 → loaded .state ≡ holding s
     unfolding loadOf

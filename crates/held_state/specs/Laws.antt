@@ -3,7 +3,9 @@ use Prim.Native.Nat.{ℕ}
 use mathlib.Core.List.{List}
 use mathlib.Core.Path.{_≡_}
 use lib.ListN.{length}
-use Rattle.certificate.specs.Checks.{refusal}
+use Rattle.certificate.specs.Checks.{refusal, fine}
+use Rattle.judging.specs.Verdict.{verdictOf}
+use Rattle.judging.specs.Overflow.{overflowsOf}
 use Rattle.controller.specs.State.{freshState}
 use Rattle.controller.specs.Query.{refused}
 use Rattle.controller.specs.Write.{writeReport, writeBuffer}
@@ -20,3 +22,11 @@ pub record TurnedBack (state : List ℕ) : Type 0 where
 
 abbrev pub OtherLengths : Type 0
 OtherLengths = (state : List ℕ) → (length state ≡ stateSize → ⊥) → TurnedBack state
+
+-- one of the right length gets what the bytes deserve
+pub record Taken (state : List ℕ) : Type 0 where
+  pub fresh : freshReport state ≡ fine
+  pub load : (s : List ℕ) → (loadReport state s ≡ verdictOf s) × (loadOverflows state s ≡ overflowsOf s)
+
+abbrev pub RightLength : Type 0
+RightLength = (state : List ℕ) → length state ≡ stateSize → Taken state

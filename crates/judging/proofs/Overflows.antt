@@ -5,6 +5,7 @@ use mathlib.Core.Bool.{Bool, true, false, false≢true}
 use mathlib.Core.Path.{_≡_, refl, sym, _∙_}
 use mathlib.Core.Logic.{⊎-elim}
 use native.Mathlib.Nat.{eq-or-lt-of-le}
+use native.Mathlib.Numerals.{add-one}
 use native.Mathlib.Omega.{arith}
 use borrow.Author.Tests.{eq-eqb, ne-eqb}
 use lib.ListN.{take}
@@ -22,7 +23,7 @@ use Rattle.grid.specs.Laws.{ImageOf}
 use Rattle.grid.proofs.Images.{image-is-smallest}
 use Rattle.judging.specs.Verdict.{verdictOf}
 use Rattle.judging.specs.Overflow.{boxOverflows, entryOverflows, overflowsBefore, overflowsOf}
-use Rattle.judging.specs.Laws.{TurnsAway, EntryOverflows, NotCut, AcceptedOverflows, RefusedOverflows, OverflowsFit, NoneOverflows, OverflowsOfLong}
+use Rattle.judging.specs.Laws.{TurnsAway, EntryOverflows, NotCut, AcceptedOverflows, RefusedOverflows, OverflowsCount, OverflowsFit, NoneOverflows, OverflowsOfLong}
 use Rattle.judging.proofs.Counting.{ones-most}
 use Rattle.judging.proofs.Screens.{at-most-or-above}
 use Rattle.judging.proofs.Verdicts.{accepted-is-plain, verdict-of-long}
@@ -68,6 +69,15 @@ accepted-overflows s z = rw (eq-eqb (verdictOf s .number) 0 z)
 pub refused-overflows : RefusedOverflows
 unfolding overflowsOf
 refused-overflows s bad = rw (ne-eqb (verdictOf s .number) 0 bad)
+
+pub overflows-count : OverflowsCount
+unfolding overflowsBefore sumTo
+overflows-count s =
+    record {
+      none = refl;
+      more = λ e over. rw (add-one, over) (omega arith);
+      same = λ e under. rw (add-one, under) (omega arith);
+    }
 
 -- the entries before e that overflow are at most e
 pub overflows-before-most : (s : List ℕ) (e : ℕ) → overflowsBefore s e ≤ e

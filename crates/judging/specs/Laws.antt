@@ -158,6 +158,15 @@ AcceptedOverflows = (s : List ℕ) → verdictOf s .number ≡ 0 → overflowsOf
 abbrev pub RefusedOverflows : Type 0
 RefusedOverflows = (s : List ℕ) → (verdictOf s .number ≡ 0 → ⊥) → overflowsOf s ≡ 0
 
+-- the number is a count: none before the first entry, one more after an entry that may turn arrivals away, the same after any other
+pub record CountsOn (s : List ℕ) : Type 0 where
+  pub none : overflowsBefore s 0 ≡ 0
+  pub more : (e : ℕ) → entryOverflows s e ≡ true → overflowsBefore s (e + 1) ≡ overflowsBefore s e + 1
+  pub same : (e : ℕ) → entryOverflows s e ≡ false → overflowsBefore s (e + 1) ≡ overflowsBefore s e
+
+abbrev pub OverflowsCount : Type 0
+OverflowsCount = (s : List ℕ) → CountsOn s
+
 -- an entry counts once, so the number is at most that of the entries
 abbrev pub OverflowsFit : Type 0
 OverflowsFit = (s : List ℕ) → overflowsOf s ≤ entriesOf s

@@ -3,3 +3,4 @@ pub mod Numerals
 pub mod Digits
 pub mod LineLengths
 pub mod Listings
+pub mod Wording

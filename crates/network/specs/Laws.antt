@@ -1,17 +1,49 @@
 -- What is proved of the flow rule and the image of a box (proofs/ of this crate). Statements only.
-use Prim.Native.Nat.{ℕ, _*_, _-_, _≤_, _<_}
+use Prim.Native.Nat.{ℕ, _+_, _*_, _-_, _^_, _≤_, _<_}
 use mathlib.Core.List.{List}
 use mathlib.Core.Bool.{Bool, true, false}
 use mathlib.Core.Path.{_≡_}
 use mathlib.Core.Logic.{_↔_}
 use Rattle.certificate.specs.Facts.{Readable}
-use Rattle.certificate.specs.Loops.{pick}
-use Rattle.certificate.specs.Layout.{remembers, maxPullSum, linksOf, turnsOf, signalsOf, capOf, flowOf, startFlowOf, fromOf, toOf, pullOf, entriesOf, signalOf}
+use Rattle.certificate.specs.Loops.{pick, sumTo}
+use Rattle.certificate.specs.Layout.{remembers, maxPullSum, linksOf, turnsOf, signalsOf, capOf, flowOf, startFlowOf, fromOf, toOf, pullOf, greenByteOf, entriesOf, signalOf}
 use Rattle.network.specs.Network.{Network, networkOf, isGreen, limitOf, entryLimit}
-use Rattle.network.specs.Flow.{gross, next}
+use Rattle.network.specs.Flow.{sent, gross, next}
 use Rattle.network.specs.Conditions.{pullSum, screeningOf}
 use Rattle.network.specs.Image.{lowEnd, highEnd, exceedsCap}
-use Rattle.network.specs.Sound.{Sound, Pushes, Within}
+use Rattle.network.specs.Sound.{Joined, Sound, Pushes, Within}
+
+-- The flow rule, in plain terms.
+
+-- link j sends at most its queue, its limit and pull × (cap − queue) / 100 of each link that it turns into, and no less than all these allow: the least
+pub record SendsLeast (N : Network) (limit : ℕ → ℕ) (D : ℕ) (x : ℕ → ℕ) (j : ℕ) : Type 0 where
+  pub by-queue : sent N limit D x j ≤ 100 * x j
+  pub by-limit : sent N limit D x j ≤ 100 * (D * limit j)
+  pub by-room : (t : ℕ) → t < N .turns → N .from t ≡ j → sent N limit D x j ≤ N .pull t * (D * N .cap (N .to t) - x (N .to t))
+  pub no-less : (k : ℕ) → k ≤ 100 * x j → k ≤ 100 * (D * limit j)
+      → ((t : ℕ) → t < N .turns → N .from t ≡ j → k ≤ N .pull t * (D * N .cap (N .to t) - x (N .to t))) → k ≤ sent N limit D x j
+
+abbrev pub SentIsLeast : Type 0
+SentIsLeast = (N : Network) (limit : ℕ → ℕ) (D : ℕ) (x : ℕ → ℕ) (j : ℕ) → SendsLeast N limit D x j
+
+-- no vehicle is made or lost: all that waits after a step, not cut at cap, and all that is sent is all that waited, all that arrives and all that
+-- turns pass on, each turn its share of what its from link sends
+abbrev pub Conserved : Type 0
+Conserved =
+    (N : Network) → Joined N → (limit : ℕ → ℕ) (D : ℕ) (x a : ℕ → ℕ)
+    → sumTo (N .links) (gross N limit D x a) + 100 * sumTo (N .links) (sent N limit D x)
+    ≡ 10000 * sumTo (N .links) x + 10000 * sumTo (N .links) a + sumTo (N .turns) (λ t. N .share t * sent N limit D x (N .from t))
+
+-- the byte of a signal is the sum of the values of its green links, 2 to the l for link l
+abbrev pub GreenByte : Type 0
+GreenByte =
+    (s : List ℕ) → Readable s → (g : ℕ) → g < signalsOf s
+    → greenByteOf s g ≡ sumTo (linksOf s) (λ l. pick (isGreen s g l) (2 ^ l) 0)
+
+-- red links add nothing to a pull sum
+abbrev pub RedPullsNothing : Type 0
+RedPullsNothing =
+    (N : Network) (green : ℕ → Bool) (l : ℕ) → ((t : ℕ) → t < N .turns → N .to t ≡ l → green (N .from t) ≡ false) → pullSum N green l ≡ 0
 
 -- Monotone (004, Theorem 1): what pushes link l higher leaves it at least as high, before the cut at cap and after it
 abbrev pub Monotone : Type 0

@@ -2,13 +2,14 @@
 use Prim.Native.Nat.{ℕ, _+_}
 use mathlib.Core.List.{List, _++_}
 use mathlib.Core.Path.{_≡_, sym}
+use borrow.Author.Tests.{ne-eqb}
 use lib.ListN.{length, getD, take, length-append}
 use lib.Seq.{getD-append-add, take-at}
 use Rattle.certificate.specs.Layout.{maxLength}
 use Rattle.controller.specs.declared.Controller.{Controller}
 use Rattle.controller.proofs.Holding.{fresh-holds-none}
-use Rattle.packed_state.specs.State.{stateModeAt, stateSize, quadAt, eightAt, stateTail, stateBytes}
-use Rattle.packed_state.specs.Laws.{WholeState, UnpacksAgain, OtherLengthHoldsNone}
+use Rattle.packed_state.specs.State.{stateModeAt, stateSize, quadAt, eightAt, stateTail, stateBytes, bytesAfter}
+use Rattle.packed_state.specs.Laws.{WholeState, UnpacksAgain, OtherLengthHoldsNone, BytesAfter}
 use Rattle.packed_state.proofs.Octets.{eight}
 use Rattle.packed_state.proofs.Packing.{made, other-length}
 
@@ -43,3 +44,7 @@ unpacks-again c w =
 
 pub other-length-holds-none : OtherLengthHoldsNone
 other-length-holds-none s h held = fresh-holds-none (rw (other-length s h) at held)
+
+pub bytes-after : BytesAfter
+unfolding bytesAfter
+bytes-after next state = record { kept = λ number other. rw (ne-eqb number 0 other); size = λ w. size-back next w; holds = λ w. unpacks-again next w }

@@ -7,3 +7,4 @@ pub mod Moments
 pub mod Turning
 pub mod RunClaim
 pub mod TurnedAway
+pub mod AllRuns

@@ -27,6 +27,7 @@ use Rattle.judging.specs.Conditions.{EntryHolds}
 use Rattle.runs.specs.Fractions.{scaleOf}
 use Rattle.runs.specs.Runs.{RunState, Step, InForce, entryIn, hasEntry, commonScale, queuesOver, arrivalsOver, moved, stepped, Remembered, Safe, ProperStep}
 use Rattle.runs.specs.Goals.{MetFor}
+use Rattle.runs.specs.Laws.{StepInBox}
 use Rattle.runs.proofs.Fractions.{scale-least, keeps-low, keeps-high}
 use Rattle.runs.proofs.Cells.{below-bound, same-cell}
 use Rattle.runs.proofs.Lookup.{finds-entry}
@@ -46,19 +47,23 @@ pub record Steady (s : List ℕ) : Type 0 where
   pub step : (r : RunState) (e : ℕ) (p : Step) → InForce s r e → 1 ≤ r .scale → Remembered s r → ProperStep s p → Follower s e (stepped s r p)
   pub memory : (r : RunState) (p : Step) → Remembered s r → Remembered s (stepped s r p)
 
--- a step's arrivals have a scale of at least 1, and over the common scale they lie in its arrival box
+-- a step's arrivals lie in its arrival box
+pub step-in-box : StepInBox
+step-in-box s p P l lt =
+    let given : l < length (p .arrivals) = rw (P .count) lt in
+    let low = keeps-low (p .arrivals) l _ given (P .scales l lt) (P .low l lt) in
+    let high = keeps-high (p .arrivals) l _ given (P .scales l lt) (P .high l lt) in
+    (rw mul-comm low, rw (mul-comm (scaleOf (p .arrivals))) high)
+
+-- they have a scale of at least 1, and over the common scale they lie there too
 module _ (s : List ℕ) (p : Step) (P : ProperStep s p) where
   pub arrivals-scale : 1 ≤ scaleOf (p .arrivals)
   arrivals-scale = scale-least (p .arrivals) (linksOf s) (P .count) (P .scales)
 
   pub in-box : (r : RunState) → InBox s (p .box) (commonScale r p) (arrivalsOver r p)
   in-box r l lt =
-      let given : l < length (p .arrivals) = rw (P .count) lt in
-      let low = keeps-low (p .arrivals) l _ given (P .scales l lt) (P .low l lt) in
-      let high = keeps-high (p .arrivals) l _ given (P .scales l lt) (P .high l lt) in (
-        rw (mul-assoc, mul-comm (scaleOf (p .arrivals))) (mul-le-mul-left (r .scale) low),
-        rw (mul-assoc, mul-comm (scaleOf (p .arrivals))) (mul-le-mul-left (r .scale) high),
-      )
+      let here = step-in-box s p P l lt in
+      (rw mul-assoc (mul-le-mul-left (r .scale) (here .0)), rw mul-assoc (mul-le-mul-left (r .scale) (here .1)))
 
   -- the scale stays at least 1, whether an entry is in force or not
   pub scale-stays : (r : RunState) → 1 ≤ r .scale → 1 ≤ stepped s r p .scale

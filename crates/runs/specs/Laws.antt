@@ -2,17 +2,21 @@
 use Prim.Native.Nat.{ℕ, _+_, _*_, _≤_, _<_}
 use mathlib.Core.List.{List}
 use mathlib.Core.Bool.{false}
+use mathlib.Core.Logic.{_↔_}
 use mathlib.Core.Path.{_≡_}
 use lib.ListN.{length, getD}
-use Rattle.certificate.specs.Layout.{linksOf, signalOf}
+use Rattle.certificate.specs.Layout.{linksOf, boxesOf, entriesOf, takesTurns, cellOf, modeOf, signalOf, rankOf}
 use Rattle.certificate.specs.Facts.{Readable}
 use Rattle.network.specs.Network.{networkOf, limitOf}
 use Rattle.network.specs.Flow.{gross}
 use Rattle.network.specs.Laws.{Screened}
+use Rattle.grid.specs.Laws.{InClosedCell, InBox}
+use Rattle.judging.specs.Conditions.{SafeCell, GoalCell}
 use Rattle.judging.specs.Verdict.{verdictOf}
 use Rattle.judging.specs.Overflow.{entryOverflows, overflowsOf}
 use Rattle.runs.specs.Fractions.{Fraction, fractionAt, scaleOf, overScale}
-use Rattle.runs.specs.Runs.{RunState, Step, start, InForce, commonScale, queuesOver, arrivalsOver, stepped, momentOf, Remembered, noStep, ProperQueues, ProperStep, ProperSteps}
+use Rattle.runs.specs.Runs.{RunState, Step, start, InForce, commonScale, queuesOver, arrivalsOver, moved, stepped, momentOf, Remembered, GoalMet, Safe, noStep, ProperQueues, ProperStep, ProperSteps}
+use Rattle.runs.specs.Goals.{greatestRank, MetFor}
 use Rattle.runs.specs.Claim.{RunClaim}
 
 -- bringing a list of fractions to one scale keeps each, by cross products
@@ -23,6 +27,58 @@ KeepsFractions =
 -- the common scale is at least 1 where each scale is
 abbrev pub ScalePositive : Type 0
 ScalePositive = (fs : List Fraction) → ((l : ℕ) → l < length fs → 1 ≤ fractionAt fs l .den) → 1 ≤ scaleOf fs
+
+-- What the run claim speaks of is all that document 01 means.
+
+-- all exact queues may be first queues: for queues x over any scale D some list of fractions says just these, by cross products
+abbrev pub AnyQueues : Type 0
+AnyQueues =
+    (s : List ℕ) (D : ℕ) (x : ℕ → ℕ) → 1 ≤ D
+    → (queues : List Fraction) × ProperQueues s queues × ((l : ℕ) → l < linksOf s → overScale queues l * D ≡ x l * scaleOf queues)
+
+-- a step's arrivals lie in its box
+abbrev pub StepInBox : Type 0
+StepInBox = (s : List ℕ) (p : Step) → ProperStep s p → InBox s (p .box) (scaleOf (p .arrivals)) (overScale (p .arrivals))
+
+-- and all exact arrivals of every box may be a step's
+abbrev pub AnyArrivals : Type 0
+AnyArrivals =
+    (s : List ℕ) (b D : ℕ) (a : ℕ → ℕ) → b < boxesOf s → 1 ≤ D → InBox s b D a
+    → (p : Step) × ProperStep s p × (p .box ≡ b) × ((l : ℕ) → l < linksOf s → overScale (p .arrivals) l * D ≡ a l * scaleOf (p .arrivals))
+
+-- moment 0 is before the first step, and each moment one step after the one before it
+pub record Moments (s : List ℕ) (r : RunState) (steps : List Step) : Type 0 where
+  pub first : momentOf s r steps 0 ≡ r
+  pub next : (k : ℕ) → k < length steps → momentOf s r steps (k + 1) ≡ stepped s (momentOf s r steps k) (getD steps k noStep)
+
+abbrev pub MomentsFollow : Type 0
+MomentsFollow = (s : List ℕ) (r : RunState) (steps : List Step) → Moments s r steps
+
+-- a step goes by the entry in force; with none in force it leaves all as it was
+pub record StepGoes (s : List ℕ) (r : RunState) (p : Step) : Type 0 where
+  pub moves : (e : ℕ) → InForce s r e → stepped s r p ≡ moved s r p e
+  pub stays : ((e : ℕ) → InForce s r e → ⊥) → stepped s r p ≡ r
+
+abbrev pub StepsGo : Type 0
+StepsGo = (s : List ℕ) → Screened s → (r : RunState) (p : Step) → 1 ≤ r .scale → StepGoes s r p
+
+-- the conditions on an entry's cell, said of exact queues: its upper edges are at most safe exactly if no queues of the closed cell exceed safe, and
+-- at most the goal of its mode exactly if all of them meet it, which in HD and H2 is the one goal
+pub record CellSays (s : List ℕ) (e : ℕ) : Type 0 where
+  pub safe : SafeCell s e ↔ ((r : RunState) → InClosedCell s (cellOf s e) (r .scale) (r .queue) → Safe s r)
+  pub goal : GoalCell s e ↔ ((r : RunState) → InClosedCell s (cellOf s e) (r .scale) (r .queue) → MetFor s (modeOf s e) r)
+  pub one-goal : takesTurns s ≡ false → (r : RunState) → MetFor s (modeOf s e) r ↔ GoalMet s r
+
+abbrev pub CellsSay : Type 0
+CellsSay = (s : List ℕ) → Readable s → (e : ℕ) → CellSays s e
+
+-- the greatest rank is that of some entry, and no entry's is above it
+pub record RankIs (s : List ℕ) : Type 0 where
+  pub most : (e : ℕ) → e < entriesOf s → rankOf s e ≤ greatestRank s
+  pub some : (e : ℕ) × (e < entriesOf s) × (rankOf s e ≡ greatestRank s)
+
+abbrev pub RankIsGreatest : Type 0
+RankIsGreatest = (s : List ℕ) → Readable s → RankIs s
 
 -- at every moment of a run the queues stand over a scale of at least 1
 abbrev pub MomentScale : Type 0

@@ -1,12 +1,14 @@
--- `exports::dergvost_load` meets its contract: 255, or the load's report and the state's bytes afterwards. Assumes nothing.
+-- `exports::dergvost_load` meets its contract: 255, or the load's report, the state's bytes afterwards and the run claim. Assumes nothing.
+use mathlib.Core.Path.{sym, ap, _∙_}
 use native.Mathlib.Omega.{arith}
+use Rattle.certificate.specs.declared.Report.{Report}
 use Rattle.exports.proofs.Answering.{nothing-done, all-done}
 use borrow.Author.Needs.{needs}
 use Rattle.exports.proofs.dergvost_load.Statement.{statement}
 use Rattle.exports.proofs.dergvost_load.Tie as tie
 
 returns : tie.Need-returns
-returns c = nothing-done (omega arith)
+returns c = record { called = nothing-done (omega arith); claim = λ z. absurd (omega arith) }
 
 load-requires : tie.Need-load-requires
 load-requires c κs = search needs
@@ -23,7 +25,11 @@ same-length-2 c = search needs
 returns-2 : tie.Need-returns-2
 returns-2 c =
     let loaded = c .before .before .before .before .before .before .load .ensures in
-    all-done (omega arith) (rw (← loaded .report, ← loaded .overflows) (c .before .before .put-verdict .ensures)) (loaded .bytes)
+    let put = c .before .before .put-verdict .ensures in
+    record {
+      called = all-done (omega arith) (rw (← loaded .report, ← loaded .overflows) put) (loaded .bytes);
+      claim = λ z. loaded .runs (ap (λ (x : Report). x .number) (sym (loaded .report)) ∙ sym (put .0) ∙ z);
+    }
 
 pub dergvost-load-spec : {M : Type 1} → statement M
 dergvost-load-spec =

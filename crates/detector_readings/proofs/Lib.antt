@@ -1,0 +1,2 @@
+-- Floats by their bits.
+pub mod Heights

@@ -1,0 +1,2 @@
+-- What the code that reads detectors goes by.
+pub mod Heights
