@@ -4,7 +4,7 @@ ghost use Rattle.network.specs.Conditions.{screeningOf};
 
 mod conditions;
 
-// Screens any bytes: refusals 1 to 11 and 22, or success and the layout.
+// Screens any bytes: refusals 1 to 11, 22, 23 and 24, or success and the layout.
 pub fn screen(s: &[u8]) -> reading::Reading
     ensures { λ r. ⌜ ReadAs (now (s .entry)) (screeningOf (now (s .entry))) r ⌝ }
 {
