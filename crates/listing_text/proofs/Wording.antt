@@ -13,7 +13,7 @@ use Rattle.certificate.specs.Checks.{result, refusal, need}
 use Rattle.judging.specs.Verdict.{verdictOf}
 use Rattle.listing_text.specs.Lines.{countsLine, entryLine, entryLines, acceptedLine, refusedLine}
 use Rattle.listing_text.specs.Listing.{acceptedText, textOf, listingOf, sendReport, sendBuffer}
-use Rattle.listing_text.specs.Laws.{bytesOf, LinesWorded, ListingIs, SendIsPlain}
+use Rattle.listing_text.specs.Laws.{bytesOf, LinesWorded, ListingIs, SendIsPlain, ListCalls}
 
 pub lines-worded : LinesWorded
 unfolding bytesOf countsLine entryLine acceptedLine refusedLine
@@ -43,3 +43,6 @@ send-is-plain words buffer =
         → (b : Bool) → leb (length words) (length buffer) ≡ b → length buffer < length words
     longer e true t = let z : _≡_ {A = ℕ} 0 17 = rw t at e in absurd (omega arith)
     longer e false t = leb-false _ _ t
+
+pub list-calls : ListCalls
+list-calls s buffer = record { report = refl; bytes = refl }

@@ -13,7 +13,7 @@ use Rattle.judging.specs.Verdict.{verdictOf}
 use Rattle.judging.specs.Overflow.{overflowsOf}
 use Rattle.listing_text.specs.Text.{decimal}
 use Rattle.listing_text.specs.Lines.{countsLine, entryLine, entryLines, acceptedLine, refusedLine}
-use Rattle.listing_text.specs.Listing.{listingOf, sendReport, sendBuffer, Sent}
+use Rattle.listing_text.specs.Listing.{listingOf, sendReport, sendBuffer, Sent, listReport, listBuffer}
 
 -- a numeral read from the left, where n was read before it: each digit adds its value to ten times what was read so far
 unfoldable pub readOn : ℕ → List ℕ → ℕ
@@ -85,6 +85,10 @@ pub record Sends (words buffer : List ℕ) : Type 0 where
 
 abbrev pub SendIsPlain : Type 0
 SendIsPlain = (words buffer : List ℕ) → Sends words buffer
+
+-- the call that lists sends the listing
+abbrev pub ListCalls : Type 0
+ListCalls = (s buffer : List ℕ) → Sent (listingOf s) buffer (listBuffer s buffer) (listReport s buffer)
 
 -- The most bytes of each line: those of its words, spaces and line feed, and the digits of its numbers.
 -- links, turns, signals, modes, arrival boxes, entries

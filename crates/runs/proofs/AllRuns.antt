@@ -1,30 +1,31 @@
 -- All exact queues and arrivals are those of some run, steps go by the entry in force, and cells say what their queues do. Assumes nothing.
-use Prim.Native.Nat.{ℕ, zero, suc, _+_, _*_, _≤_, _<_}
+use Prim.Native.Nat.{ℕ, zero, suc, _+_, _*_, _%_, _≤_, _<_}
 use mathlib.Core.Bool.{Bool, true, false, cond}
 use mathlib.Core.List.{List, [], _∷_}
-use mathlib.Core.Logic.{_↔_}
+use mathlib.Core.Logic.{_↔_, ⊎-elim}
 use mathlib.Core.Path.{_≡_, refl, ap, sym, _∙_}
-use native.Mathlib.Nat.{le-trans, mul-comm, mul-le-mul-left}
+use native.Mathlib.Nat.{le-trans, eq-or-lt-of-le, mul-assoc, mul-comm, mul-left-comm, mul-le-mul-left, mod-self, mod-lt, mod-eq-of-lt, mod-add-mod}
 use native.Mathlib.Numerals.{add-one}
 use native.Mathlib.Omega.{arith}
 use borrow.Author.Tests.{leb-true, ltb-true, eqb-true}
 use lib.ListN.{length, take, getD}
 use lib.Dec.{leb, ltb}
 use Rattle.certificate.specs.Loops.{every}
-use Rattle.certificate.specs.Layout.{linksOf, capOf, safeOf, goalOf, goalFor, boxesOf, lowOf, highOf, entriesOf, cellOf, modeOf, rankOf, takesTurns}
+use Rattle.certificate.specs.Layout.{linksOf, capOf, safeOf, goalOf, goalFor, boxesOf, lowOf, highOf, entriesOf, cellOf, modeOf, rankOf, takesTurns, greatestGoal, nextGoal}
 use Rattle.certificate.specs.Facts.{Readable}
 use Rattle.certificate.proofs.Tests.{and-both}
 use Rattle.certificate.proofs.Loops.{every-each, found}
 use Rattle.certificate.proofs.KindLaws.{one-goal-layout}
-use Rattle.certificate.proofs.Goals.{attained, at-most-greatest}
+use Rattle.certificate.proofs.Goals.{attained, at-most-greatest, goals-in-order}
 use Rattle.grid.specs.Cells.{lowerOf, upperOf, InCell, cellAt}
 use Rattle.grid.specs.Laws.{InClosedCell, InBox}
 use Rattle.grid.proofs.Edges.{cell-lower-below-upper}
 use Rattle.grid.proofs.Intervals.{one-cell}
 use Rattle.judging.specs.Lookup.{isFor, entryFor}
 use Rattle.runs.specs.Fractions.{Fraction, fractionAt, scaleOf, overScale}
+use Rattle.runs.specs.Goals.{turned}
 use Rattle.runs.specs.Runs.{RunState, Step, InForce, entryIn, hasEntry, moved, stepped, after, momentOf, noStep, ProperStep}
-use Rattle.runs.specs.Laws.{AnyQueues, AnyArrivals, MomentsFollow, StepsGo, CellsSay, RankIsGreatest}
+use Rattle.runs.specs.Laws.{AnyQueues, AnyArrivals, OneScale, MomentsFollow, StepsGo, CellsSay, TurnsRound, RankIsGreatest}
 use Rattle.runs.proofs.Fractions.{keeps-fractions}
 use Rattle.runs.proofs.Steps.{moves}
 
@@ -54,7 +55,7 @@ pub any-queues : AnyQueues
 any-queues s D x pos = (
   allOver D (linksOf s) x,
   record { count = all-length D (linksOf s) x; scales = λ l lt. rw (all-at D (linksOf s) x l lt) pos },
-  all-same D (linksOf s) x,
+  λ mode. record { queue = all-same D (linksOf s) x; held = refl },
 )
 
 pub any-arrivals : AnyArrivals
@@ -70,6 +71,13 @@ any-arrivals s b D a lb pos inside = (
   refl,
   all-same D (linksOf s) a,
 )
+
+pub one-scale : OneScale
+one-scale r p =
+    record {
+      queue = λ l. rw (mul-assoc, mul-comm (scaleOf (p .arrivals)) (r .scale));
+      arrival = λ l lt. rw (mul-assoc, keeps-fractions (p .arrivals) l lt, mul-left-comm);
+    }
 
 -- one step more, from the front
 one-more : (s : List ℕ) (r : RunState) (steps : List Step) (k : ℕ) → k < length steps
@@ -101,6 +109,22 @@ steps-go s S r p pos = record { moves = λ e F. moves s S r e F pos p; stays = �
     go : ((e : ℕ) → InForce s r e → ⊥) → (b : Bool) → hasEntry s r ≡ b → cond b (moved s r p (entryIn s r)) r ≡ r
     go none true e = absurd (none _ (found-in-force s (S .readable) r pos e))
     go none false e = refl
+
+-- one goal on, counted round
+next-round : (s : List ℕ) (m : ℕ) → m ≤ greatestGoal s → nextGoal s m ≡ (m + 1) % (greatestGoal s + 1)
+next-round s m le =
+    ⊎-elim
+    (λ (e : m ≡ greatestGoal s). rw e (goals-in-order s .wraps ∙ sym (mod-self (greatestGoal s + 1))))
+    (λ (lt : m < greatestGoal s). let below : m + 1 < greatestGoal s + 1 = omega arith in goals-in-order s .on m lt ∙ sym (mod-eq-of-lt below))
+    (eq-or-lt-of-le le)
+
+pub turns-round : TurnsRound
+unfolding turned
+turns-round s zero n le = let below : n + 0 < greatestGoal s + 1 = omega arith in rw (mod-eq-of-lt below) (omega arith)
+turns-round s (suc i) n le =
+    let so-far : (n + i) % (greatestGoal s + 1) < greatestGoal s + 1 = mod-lt (n + i) (omega arith) in
+    rw (turns-round s i n le)
+    (next-round s ((n + i) % (greatestGoal s + 1)) (omega arith) ∙ mod-add-mod (n + i) (greatestGoal s + 1) 1 ∙ ap (λ (k : ℕ). k % (greatestGoal s + 1)) (omega arith))
 
 pub rank-is-greatest : RankIsGreatest
 rank-is-greatest s R =

@@ -1,11 +1,11 @@
 -- What is proved of fractions and runs (proofs/ of this crate). Statements only.
-use Prim.Native.Nat.{ℕ, _+_, _*_, _≤_, _<_}
+use Prim.Native.Nat.{ℕ, _+_, _*_, _%_, _≤_, _<_}
 use mathlib.Core.List.{List}
 use mathlib.Core.Bool.{false}
 use mathlib.Core.Logic.{_↔_}
 use mathlib.Core.Path.{_≡_}
 use lib.ListN.{length, getD}
-use Rattle.certificate.specs.Layout.{linksOf, boxesOf, entriesOf, takesTurns, cellOf, modeOf, signalOf, rankOf}
+use Rattle.certificate.specs.Layout.{linksOf, boxesOf, entriesOf, takesTurns, greatestGoal, cellOf, modeOf, signalOf, rankOf}
 use Rattle.certificate.specs.Facts.{Readable}
 use Rattle.network.specs.Network.{networkOf, limitOf}
 use Rattle.network.specs.Flow.{gross}
@@ -16,7 +16,7 @@ use Rattle.judging.specs.Verdict.{verdictOf}
 use Rattle.judging.specs.Overflow.{entryOverflows, overflowsOf}
 use Rattle.runs.specs.Fractions.{Fraction, fractionAt, scaleOf, overScale}
 use Rattle.runs.specs.Runs.{RunState, Step, start, InForce, commonScale, queuesOver, arrivalsOver, moved, stepped, momentOf, Remembered, GoalMet, Safe, noStep, ProperQueues, ProperStep, ProperSteps}
-use Rattle.runs.specs.Goals.{greatestRank, MetFor}
+use Rattle.runs.specs.Goals.{greatestRank, MetFor, turned}
 use Rattle.runs.specs.Claim.{RunClaim}
 
 -- bringing a list of fractions to one scale keeps each, by cross products
@@ -30,11 +30,16 @@ ScalePositive = (fs : List Fraction) → ((l : ℕ) → l < length fs → 1 ≤ 
 
 -- What the run claim speaks of is all that document 01 means.
 
--- all exact queues may be first queues: for queues x over any scale D some list of fractions says just these, by cross products
+-- state r has the queues x over scale D, by cross products, and is in that mode
+pub record Begins (s : List ℕ) (r : RunState) (D : ℕ) (x : ℕ → ℕ) (mode : ℕ) : Type 0 where
+  pub queue : (l : ℕ) → l < linksOf s → r .queue l * D ≡ x l * r .scale
+  pub held : r .mode ≡ mode
+
+-- all exact queues may be first queues, in any mode: for queues x over any scale D some list of fractions begins a run with just these
 abbrev pub AnyQueues : Type 0
 AnyQueues =
     (s : List ℕ) (D : ℕ) (x : ℕ → ℕ) → 1 ≤ D
-    → (queues : List Fraction) × ProperQueues s queues × ((l : ℕ) → l < linksOf s → overScale queues l * D ≡ x l * scaleOf queues)
+    → (queues : List Fraction) × ProperQueues s queues × ((mode : ℕ) → Begins s (start s queues mode) D x mode)
 
 -- a step's arrivals lie in its box
 abbrev pub StepInBox : Type 0
@@ -45,6 +50,15 @@ abbrev pub AnyArrivals : Type 0
 AnyArrivals =
     (s : List ℕ) (b D : ℕ) (a : ℕ → ℕ) → b < boxesOf s → 1 ≤ D → InBox s b D a
     → (p : Step) × ProperStep s p × (p .box ≡ b) × ((l : ℕ) → l < linksOf s → overScale (p .arrivals) l * D ≡ a l * scaleOf (p .arrivals))
+
+-- the queues and arrivals of a step, brought to one scale, are what they were, by cross products
+pub record OverOne (r : RunState) (p : Step) : Type 0 where
+  pub queue : (l : ℕ) → queuesOver r p l * r .scale ≡ r .queue l * commonScale r p
+  pub arrival : (l : ℕ) → l < length (p .arrivals)
+      → arrivalsOver r p l * fractionAt (p .arrivals) l .den ≡ fractionAt (p .arrivals) l .num * commonScale r p
+
+abbrev pub OneScale : Type 0
+OneScale = (r : RunState) (p : Step) → OverOne r p
 
 -- moment 0 is before the first step, and each moment one step after the one before it
 pub record Moments (s : List ℕ) (r : RunState) (steps : List Step) : Type 0 where
@@ -71,6 +85,10 @@ pub record CellSays (s : List ℕ) (e : ℕ) : Type 0 where
 
 abbrev pub CellsSay : Type 0
 CellsSay = (s : List ℕ) → Readable s → (e : ℕ) → CellSays s e
+
+-- the number i goals after number n is n + i, counted round after the greatest
+abbrev pub TurnsRound : Type 0
+TurnsRound = (s : List ℕ) (i n : ℕ) → n ≤ greatestGoal s → turned s i n ≡ (n + i) % (greatestGoal s + 1)
 
 -- the greatest rank is that of some entry, and no entry's is above it
 pub record RankIs (s : List ℕ) : Type 0 where
