@@ -1,13 +1,13 @@
 -- The paper layout of documents 01 and 02 as one list: every field of a certificate, in order. A law says that a readable certificate is just that.
-use Prim.Native.Nat.{ℕ, zero, suc, _+_, _-_}
+use Prim.Native.Nat.{ℕ, zero, suc, _+_, _*_, _-_}
 use mathlib.Core.Bool.{cond}
 use mathlib.Core.List.{List, [], _∷_, _++_}
 use mathlib.Core.Path.{_≡_}
-use Rattle.certificate.specs.Octets.{byteAt, u16At}
+use Rattle.certificate.specs.Octets.{byteAt}
 use Rattle.certificate.specs.Layout.{kindByteOf, remembers, takesTurns, linksOf, turnsOf, signalsOf, modesOf, boxesOf, entriesOf, tailOf, headOf, capOf, flowOf, safeOf, goalOf, startFlowOf, fromOf, toOf, shareOf, pullOf, greenByteOf, shownBefore, goalNumberOf, goalFor, intervalsOf, cutOf, lowOf, highOf, cellOf, modeOf, signalOf, nextModeOf, rankOf}
 use Rattle.certificate.specs.Due.{Kind, HD, LK, TN, SG, MD, GR, AR, EN, ZZ, manyOf}
 
--- a field of one byte or of two (u16), with its value
+-- a field of one byte or of two (u16, high byte first), with its value
 pub data Field : Type 0 where
   byte u16 : ℕ → Field
 
@@ -15,7 +15,7 @@ pub data Field : Type 0 where
 abbrev pub Stand : List ℕ → ℕ → List Field → ℕ → Type 0
 Stand s o [] e = o ≡ e
 Stand s o (byte v ∷ fields) e = (byteAt s o ≡ v) × Stand s (o + 1) fields e
-Stand s o (u16 v ∷ fields) e = (u16At s o ≡ v) × Stand s (o + 2) fields e
+Stand s o (u16 v ∷ fields) e = (byteAt s o * 256 + byteAt s (o + 1) ≡ v) × Stand s (o + 2) fields e
 
 -- those of 0, 1 .. n - 1, one after another
 abbrev pub each : ℕ → (ℕ → List Field) → List Field
