@@ -149,6 +149,12 @@ unfolding sumTo
 sum-same zero f g h = refl
 sum-same (suc n) f g h = rw (sum-same n f g (λ t lt. h t (omega arith)), h n (omega arith))
 
+-- a sum of nothing is nothing
+pub sum-none : (n : ℕ) (f : ℕ → ℕ) → ((t : ℕ) → t < n → f t ≡ 0) → sumTo n f ≡ 0
+unfolding sumTo
+sum-none zero f h = refl
+sum-none (suc n) f h = rw (sum-none n f (λ t lt. h t (omega arith)), h n (omega arith))
+
 -- a sum whose every term is short by at most a weight times d is short by at most the sum of the weights times d
 pub sum-slack : (n : ℕ) (f g w : ℕ → ℕ) (d : ℕ) → ((t : ℕ) → t < n → f t ≤ g t + w t * d) → sumTo n f ≤ sumTo n g + sumTo n w * d
 unfolding sumTo

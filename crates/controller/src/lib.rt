@@ -30,8 +30,10 @@ pub struct Limits {
     pub cap: usize,
     pub share: usize,
     pub pull: usize,
+    // of a pull sum
     pub pulls: usize,
     pub arrival: usize,
+    // of a goal number
     pub goals: usize,
     pub length: usize,
     pub scale: u32,

@@ -1,6 +1,6 @@
--- Numerals, their digits, the lengths of lines and of the whole.
+-- Numerals, their digits, the lengths of lines, their words, and the whole.
 pub mod Numerals
 pub mod Digits
 pub mod LineLengths
-pub mod Listings
 pub mod Wording
+pub mod Listings

@@ -4,11 +4,11 @@ use mathlib.Core.List.{List, _++_}
 use mathlib.Core.Path.{_≡_, refl, sym, ap, _∙_}
 use mathlib.Core.Logic.{⊎-elim}
 use native.Mathlib.Omega.{arith}
-use borrow.Author.Tests.{eq-eqb, ne-eqb, le-leb}
+use borrow.Author.Tests.{eq-eqb, ne-eqb}
 use lib.ListN.{length, take, drop, length-append}
 use lib.Seq.{take-all, take-at}
 use Rattle.certificate.specs.declared.Report.{Report}
-use Rattle.certificate.specs.Checks.{result, need}
+use Rattle.certificate.specs.Checks.{result}
 use Rattle.certificate.specs.Layout.{maxLength, entriesOf}
 use Rattle.certificate.specs.Facts.{Readable}
 use Rattle.certificate.proofs.Size.{readable-fits}
@@ -18,8 +18,9 @@ use Rattle.judging.specs.Overflow.{overflowsOf}
 use Rattle.judging.proofs.Verdicts.{accepted-is-plain, verdict-of-long}
 use Rattle.judging.proofs.Overflows.{overflows-fit}
 use Rattle.listing_text.specs.Lines.{countsLine, entryLines, acceptedLine, refusedLine}
-use Rattle.listing_text.specs.Listing.{acceptedText, textOf, listingOf, sendReport, sendBuffer, Sent}
-use Rattle.listing_text.specs.Laws.{maxListing, ListingFits, ListingSent, ListingOfLong}
+use Rattle.listing_text.specs.Listing.{acceptedText, textOf, listingOf, Sent}
+use Rattle.listing_text.specs.Laws.{maxListing, ListingIs, ListingFits, ListingSent, ListingOfLong}
+use Rattle.listing_text.proofs.Wording.{send-is-plain}
 use Rattle.listing_text.proofs.LineLengths.{counts-most, entries-most, accepted-most, refused-most}
 
 -- the text under a report, by its number
@@ -30,6 +31,16 @@ text-accepted s r n e = rw (eq-eqb (r .number) 0 e)
 pub text-refused : (s : List ℕ) (r : Report) (n : ℕ) → (r .number ≡ 0 → ⊥) → textOf s r n ≡ refusedLine r
 unfolding textOf
 text-refused s r n e = rw (ne-eqb (r .number) 0 e)
+
+pub listing-is : ListingIs
+unfolding entryLines listingOf acceptedText
+listing-is s =
+    record {
+      none = refl;
+      more = λ n. refl;
+      accepted = text-accepted s (verdictOf s) (overflowsOf s);
+      refused = text-refused s (verdictOf s) (overflowsOf s);
+    }
 
 pub length-accepted : (s : List ℕ) (r : Report) (n : ℕ)
     → length (acceptedText s r n) ≡ length (countsLine s) + (length (entryLines s (entriesOf s)) + length (acceptedLine r n))
@@ -62,13 +73,11 @@ listing-fits s = ⊎-elim accepted refused (passes (verdictOf s))
 -- a text that fits a buffer is sent whole
 module _ {text buffer after : List ℕ} {answer : Report} (fits : length text ≤ length buffer) (sent : Sent text buffer after answer) where
   report-is : answer ≡ result 0 (length text) 0 0
-  unfolding sendReport need
-  report-is = sent .report ∙ rw (le-leb (length text) (length buffer) fits)
+  report-is = sent .report ∙ send-is-plain text buffer .done fits
 
   front-is : take (length text) after ≡ text
-  unfolding sendBuffer
   front-is =
-      let whole : after ≡ text ++ drop (length text) buffer = sent .bytes ∙ rw (le-leb (length text) (length buffer) fits) in
+      let whole : after ≡ text ++ drop (length text) buffer = sent .bytes ∙ send-is-plain text buffer .put fits in
       rw whole (take-at text (drop (length text) buffer) (length text) refl)
 
 pub listing-sent : ListingSent

@@ -1,33 +1,20 @@
--- The lines in quoted text, the whole listing, and how it goes to a buffer. Assumes nothing.
-use Prim.Native.Nat.{ℕ, _≤_, _<_}
+-- The lines in quoted text, and how a text goes to a buffer. Assumes nothing.
+use Prim.Native.Nat.{ℕ, _<_}
 use mathlib.Core.Bool.{Bool, true, false, cond}
-use mathlib.Core.List.{List, [], _∷_, _++_}
-use mathlib.Core.Logic.{_↔_}
-use mathlib.Core.Path.{_≡_, refl, _∙_}
+use mathlib.Core.List.{List}
+use mathlib.Core.Path.{_≡_, refl}
 use native.Mathlib.Omega.{arith}
-use borrow.Author.Tests.{eq-eqb, ne-eqb, le-leb, lt-leb, leb-true, leb-false}
+use borrow.Author.Tests.{le-leb, lt-leb, leb-false}
 use lib.ListN.{length}
 use lib.Dec.{leb}
-use Rattle.certificate.specs.declared.Report.{Report}
 use Rattle.certificate.specs.Checks.{result, refusal, need}
-use Rattle.judging.specs.Verdict.{verdictOf}
-use Rattle.listing_text.specs.Lines.{countsLine, entryLine, entryLines, acceptedLine, refusedLine}
-use Rattle.listing_text.specs.Listing.{acceptedText, textOf, listingOf, sendReport, sendBuffer}
-use Rattle.listing_text.specs.Laws.{bytesOf, LinesWorded, ListingIs, SendIsPlain, ListCalls}
+use Rattle.listing_text.specs.Lines.{countsLine, entryLine, acceptedLine, refusedLine}
+use Rattle.listing_text.specs.Listing.{sendReport, sendBuffer}
+use Rattle.listing_text.specs.Laws.{bytesOf, LinesWorded, SendIsPlain, ListCalls}
 
 pub lines-worded : LinesWorded
 unfolding bytesOf countsLine entryLine acceptedLine refusedLine
 lines-worded s = record { counts = refl; entry = λ e. refl; accepted = λ r n. refl; refused = λ r. refl }
-
-pub listing-is : ListingIs
-unfolding entryLines listingOf textOf acceptedText
-listing-is s =
-    record {
-      none = refl;
-      more = λ n. refl;
-      accepted = λ zero. rw (eq-eqb _ _ zero);
-      refused = λ other. rw (ne-eqb _ _ other);
-    }
 
 pub send-is-plain : SendIsPlain
 unfolding sendReport sendBuffer need

@@ -6,13 +6,13 @@ use native.Mathlib.Nat.{min-le-left, mul-zero}
 use native.Mathlib.Omega.{arith}
 use lib.Dec.{eqb}
 use Rattle.certificate.specs.Loops.{pick}
+use Rattle.certificate.proofs.Loops.{sum-none}
 use Rattle.network.specs.Network.{Network}
 use Rattle.network.specs.Flow.{passedIn, gross, next}
 use Rattle.network.specs.Sound.{Sound}
 use Rattle.network.specs.Laws.{NextFits, GrossFits}
 use Rattle.network.proofs.Sending.{sent-supply}
 use Rattle.network.proofs.Passing.{intoSum, passed-slack}
-use Rattle.network.proofs.Scale.{sum-none}
 
 pub next-fits : NextFits
 unfolding next
@@ -24,7 +24,7 @@ end-fits N limit x a l = omega (arith, next-fits N limit 1 x a l)
 
 -- shares of nothing are nothing
 none-in : (N : Network) (l : ℕ) → intoSum N l (λ t. N .share t * 0) ≡ 0
-none-in N l = sum-none (N .turns) _ (λ t. rw mul-zero (go (eqb (N .to t) l)))
+none-in N l = sum-none (N .turns) _ (λ t _. rw mul-zero (go (eqb (N .to t) l)))
   where
     go : (q : Bool) → pick q 0 0 ≡ 0
     go true = refl

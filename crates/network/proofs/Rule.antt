@@ -1,19 +1,19 @@
 -- The flow rule in plain terms: the least is sent, no vehicle is made or lost, red links pull nothing. Assumes nothing.
-use Prim.Native.Nat.{ℕ, zero, suc, _+_, _*_, _-_, _≤_, _<_}
+use Prim.Native.Nat.{ℕ, zero, suc, _+_, _*_, _<_}
 use mathlib.Core.Bool.{Bool, true, false}
-use mathlib.Core.Path.{_≡_, refl, sym, _∙_}
+use mathlib.Core.Path.{_≡_, refl, _∙_}
 use native.Mathlib.Omega.{arith}
 use borrow.Author.Tests.{eqb-true}
 use lib.Dec.{eqb}
 use Rattle.certificate.specs.Loops.{pick, sumTo}
-use Rattle.certificate.proofs.Loops.{sum-same}
+use Rattle.certificate.proofs.Loops.{sum-none}
 use Rattle.certificate.proofs.BitLaws.{bits-are}
 use Rattle.network.specs.Network.{Network}
 use Rattle.network.specs.Flow.{sent, passedIn, gross}
 use Rattle.network.specs.Conditions.{pullSum}
 use Rattle.network.specs.Laws.{SentIsLeast, Conserved, GreenByte, RedPullsNothing}
 use Rattle.network.proofs.Sending.{sent-queue, sent-limit, sent-supply, sent-most}
-use Rattle.network.proofs.Sums.{sum-zero, sum-plus, sum-times, by-link}
+use Rattle.network.proofs.Sums.{by-link}
 
 pub sent-is-least : SentIsLeast
 sent-is-least N limit D x j =
@@ -48,7 +48,7 @@ green-byte s R g lt = bits-are _ _ (R .signal g lt .absent-red)
 
 pub red-pulls-nothing : RedPullsNothing
 unfolding pullSum
-red-pulls-nothing N green l red = sum-same (N .turns) _ (λ _. 0) (λ t lt. one t lt (eqb (N .to t) l) refl) ∙ sum-zero (N .turns)
+red-pulls-nothing N green l red = sum-none (N .turns) _ (λ t lt. one t lt (eqb (N .to t) l) refl)
   where
     one : (t : ℕ) → t < N .turns → (q : Bool) → eqb (N .to t) l ≡ q → pick q (pick (green (N .from t)) (N .share t * N .pull t) 0) 0 ≡ 0
     one t lt true e = rw (red t lt (eqb-true _ _ e))

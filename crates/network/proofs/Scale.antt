@@ -38,10 +38,6 @@ unfolding sumTo
 sum-scale k zero f g h = rw mul-zero
 sum-scale k (suc n) f g h = rw (sum-scale k n f g h, h n, mul-add)
 
--- a sum of nothing is nothing
-pub sum-none : (n : ℕ) (f : ℕ → ℕ) → ((t : ℕ) → f t ≡ 0) → sumTo n f ≡ 0
-sum-none n f h = omega (arith, sum-scale 0 n f f (λ t. omega (arith, h t)))
-
 module _ (N : Network) (limit : ℕ → ℕ) (k D : ℕ) (x : ℕ → ℕ) where
   sent-scale : (j : ℕ) → sent N limit (k * D) (λ i. k * x i) j ≡ k * sent N limit D x j
   unfolding sent

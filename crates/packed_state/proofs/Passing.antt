@@ -2,7 +2,6 @@
 use Prim.Native.Nat.{ℕ, _+_}
 use mathlib.Core.List.{List, _++_}
 use mathlib.Core.Path.{_≡_, sym}
-use borrow.Author.Tests.{ne-eqb}
 use lib.ListN.{length, getD, take, length-append}
 use lib.Seq.{getD-append-add, take-at}
 use Rattle.certificate.specs.Layout.{maxLength}
@@ -11,7 +10,7 @@ use Rattle.controller.proofs.Holding.{fresh-holds-none}
 use Rattle.packed_state.specs.State.{stateModeAt, stateSize, quadAt, eightAt, stateTail, stateBytes, bytesAfter}
 use Rattle.packed_state.specs.Laws.{WholeState, UnpacksAgain, OtherLengthHoldsNone, BytesAfter}
 use Rattle.packed_state.proofs.Octets.{eight}
-use Rattle.packed_state.proofs.Packing.{made, other-length}
+use Rattle.packed_state.proofs.Packing.{made, other-length, refusal-keeps}
 
 -- a byte behind the array
 behind : (bytes rest : List ℕ) (n k : ℕ) → length bytes ≡ n → getD (bytes ++ rest) (n + k) 0 ≡ getD rest k 0
@@ -47,4 +46,4 @@ other-length-holds-none s h held = fresh-holds-none (rw (other-length s h) at he
 
 pub bytes-after : BytesAfter
 unfolding bytesAfter
-bytes-after next state = record { kept = λ number other. rw (ne-eqb number 0 other); size = λ w. size-back next w; holds = λ w. unpacks-again next w }
+bytes-after next state = record { kept = λ number other. sym (refusal-keeps number next state other); size = λ w. size-back next w; holds = λ w. unpacks-again next w }

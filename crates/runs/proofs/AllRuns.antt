@@ -8,23 +8,23 @@ use native.Mathlib.Nat.{le-trans, eq-or-lt-of-le, mul-assoc, mul-comm, mul-left-
 use native.Mathlib.Numerals.{add-one}
 use native.Mathlib.Omega.{arith}
 use borrow.Author.Tests.{leb-true, ltb-true, eqb-true}
-use lib.ListN.{length, take, getD}
+use lib.ListN.{length, getD}
 use lib.Dec.{leb, ltb}
 use Rattle.certificate.specs.Loops.{every}
-use Rattle.certificate.specs.Layout.{linksOf, capOf, safeOf, goalOf, goalFor, boxesOf, lowOf, highOf, entriesOf, cellOf, modeOf, rankOf, takesTurns, greatestGoal, nextGoal}
+use Rattle.certificate.specs.Layout.{linksOf, capOf, safeOf, goalFor, lowOf, highOf, entriesOf, cellOf, modeOf, rankOf, greatestGoal, nextGoal}
 use Rattle.certificate.specs.Facts.{Readable}
 use Rattle.certificate.proofs.Tests.{and-both}
 use Rattle.certificate.proofs.Loops.{every-each, found}
 use Rattle.certificate.proofs.KindLaws.{one-goal-layout}
 use Rattle.certificate.proofs.Goals.{attained, at-most-greatest, goals-in-order}
-use Rattle.grid.specs.Cells.{lowerOf, upperOf, InCell, cellAt}
-use Rattle.grid.specs.Laws.{InClosedCell, InBox}
+use Rattle.grid.specs.Cells.{upperOf, cellAt}
+use Rattle.grid.specs.Laws.{InClosedCell}
 use Rattle.grid.proofs.Edges.{cell-lower-below-upper}
 use Rattle.grid.proofs.Intervals.{one-cell}
 use Rattle.judging.specs.Lookup.{isFor, entryFor}
 use Rattle.runs.specs.Fractions.{Fraction, fractionAt, scaleOf, overScale}
 use Rattle.runs.specs.Goals.{turned}
-use Rattle.runs.specs.Runs.{RunState, Step, InForce, entryIn, hasEntry, moved, stepped, after, momentOf, noStep, ProperStep}
+use Rattle.runs.specs.Runs.{RunState, Step, InForce, entryIn, hasEntry, moved, stepped, after, momentOf, noStep}
 use Rattle.runs.specs.Laws.{AnyQueues, AnyArrivals, OneScale, MomentsFollow, StepsGo, CellsSay, TurnsRound, RankIsGreatest}
 use Rattle.runs.proofs.Fractions.{keeps-fractions}
 use Rattle.runs.proofs.Steps.{moves}

@@ -18,15 +18,10 @@ use Rattle.certificate.specs.Facts.{PairBelow}
 use Rattle.turn_records.specs.ShareTotals.{turnFits, SharesBefore}
 use Rattle.certificate.proofs.Ascending.{pairs-ascend, ascends-first, ascends-after}
 use Rattle.certificate.proofs.Tests.{and-both}
+use Rattle.certificate.proofs.Loops.{sum-none}
 use Rattle.certificate.proofs.Agreement.{also-same}
 use Rattle.certificate.proofs.Shares.{total}
 use Rattle.certificate.proofs.Records.{turn-says}
-
--- a sum of zeros
-sum-none : (n : ℕ) (f : ℕ → ℕ) → ((u : ℕ) → u < n → f u ≡ 0) → sumTo n f ≡ 0
-unfolding sumTo
-sum-none zero f h = refl
-sum-none (suc n) f h = rw (sum-none n f (λ u lt. h u (omega arith)), h n (omega arith))
 
 module _ (s : List ℕ) where
   pub turn-first : (t : ℕ) → t ≡ 0 → true ≡ turnAscends s t
