@@ -1,5 +1,4 @@
--- The tables of a grid, filled entry by entry, and the cell of given queues.
-pub mod Blocks
+-- The tables of a grid, filled entry by entry, the next cell's intervals, and the cell of given queues.
+pub mod Counting
 pub mod Filling
 pub mod Locating
-pub mod Weights

@@ -1,10 +1,8 @@
--- Tables made once for a certificate: where its grids stand, their edges, counts and weights, the intervals of each cell.
-use Prim.Native.Nat.{ℕ, zero, suc, _+_, _*_, _-_, _/_, _%_, _≤_, _<_}
+-- Tables made once for a certificate: where its grids stand, their edges and counts, the intervals of each cell.
+use Prim.Native.Nat.{ℕ, zero, suc, _+_, _*_, _≤_, _<_}
 use mathlib.Core.List.{List}
 use mathlib.Core.Path.{_≡_}
 use lib.ListN.{getD}
-use lib.Dec.{ltb}
-use Rattle.certificate.specs.Loops.{pick}
 use Rattle.certificate.specs.Layout.{maxIntervals, maxLinks, linksOf, capOf, gridAt, intervalsOf, cellsOf}
 use Rattle.certificate.specs.Facts.{Readable}
 use Rattle.grid.specs.Intervals.{lowerEdge, upperEdge}
@@ -33,32 +31,15 @@ pub record EdgesOf (s a : List ℕ) : Type 0 where
   pub lower : (l i : ℕ) → l < linksOf s → i < intervalsOf s l → getD a (edgeRow * l + i) 0 ≡ lowerEdge s l i
   pub upper : (l i : ℕ) → l < linksOf s → i < intervalsOf s l → getD a (edgeRow * l + i + 1) 0 ≡ upperEdge s l i
 
--- the product of the counts of the last k links
-unfoldable pub productOfLast : List ℕ → ℕ → ℕ
-productOfLast s zero = 1
-productOfLast s (suc k) = productOfLast s k * intervalsOf s (linksOf s - suc k)
-
--- how many cells one interval of link l spans: the product of the counts of the links after it
-abbrev pub weightOf : List ℕ → ℕ → ℕ
-weightOf s l = productOfLast s (linksOf s - suc l)
-
-abbrev pub WeightsOf : List ℕ → List ℕ → Type 0
-WeightsOf s a = Holds (linksOf s) (weightOf s) a
-
--- the grid of a readable certificate, as the code has it: how many links, their counts and weights
-pub record GridOf (s counts weights : List ℕ) (links : ℕ) : Type 0 where
+-- the grid of a readable certificate, as the code has it: how many links, and their counts
+pub record GridOf (s counts : List ℕ) (links : ℕ) : Type 0 where
   pub readable : Readable s
   pub count : CountsOf s counts
-  pub weight : WeightsOf s weights
   pub link : links ≡ linksOf s
 
 -- the interval of each link in each cell, eight a cell
 abbrev pub DigitsOf : List ℕ → List ℕ → Type 0
 DigitsOf s a = (c l : ℕ) → c < cellsOf s → l < linksOf s → getD a (maxLinks * c + l) 0 ≡ intervalIn s c l
-
--- entry k of that table: 0 for a link that does not exist
-unfoldable pub digitEntry : List ℕ → ℕ → ℕ
-digitEntry s k = pick (ltb (k % maxLinks) (linksOf s)) (intervalIn s (k / maxLinks) (k % maxLinks)) 0
 
 -- each queue of the table x, over scale D, is at most cap
 abbrev pub QueuesFit : List ℕ → ℕ → List ℕ → Type 0

@@ -1,4 +1,4 @@
-// Tables made once for a certificate: edges, counts and weights of the links, and the intervals of each cell; the cell of given queues.
+// Tables made once for a certificate: edges and counts of the links, and the intervals of each cell; the cell of given queues.
 pub mod digits;
 pub mod queues;
 pub mod tables;

@@ -1,9 +1,9 @@
 // The edges of every link's intervals, and how many there are. `o` and `places` are where the grid records start.
 ghost use mathlib.Core.Path.{_≡_};
 ghost use Prim.Native.Nat.{_<_, _≤_};
-ghost use Rattle.certificate.specs.Layout.{maxLinks, linksOf, gridAt, cellsOf};
+ghost use Rattle.certificate.specs.Layout.{maxLinks, linksOf, gridAt};
 ghost use Rattle.certificate.specs.Facts.{Readable};
-ghost use Rattle.cell_tables.specs.Tables.{edgeRow, PlacesOf, edgeOf, EdgesOf, CountsOf, WeightsOf};
+ghost use Rattle.cell_tables.specs.Tables.{edgeRow, PlacesOf, edgeOf, EdgesOf, CountsOf};
 ghost use Rattle.octets.specs.Bounds.{startBound};
 use box_records::grids;
 use certificate::limits;
@@ -55,23 +55,4 @@ pub fn counts_of(
         counts[l] = grids::count_at(s, places[l]);
     }
     counts
-}
-
-// How many cells one interval of each link spans.
-pub fn weights_of(
-    s: &[u8],
-    counts: &[usize; limits::MAX_LINKS],
-    links: usize,
-    cells: usize,
-) -> [usize; limits::MAX_LINKS]
-    requires { ⌜ Readable (now s) × CountsOf (now s) (now counts) × (links ≡ linksOf (now s)) × (cells ≡ cellsOf (now s)) ⌝ }
-    ensures { λ r. ⌜ WeightsOf (now (s .entry)) r ⌝ }
-{
-    let mut weights = [1; limits::MAX_LINKS];
-    let mut left = cells;
-    for l in 0..links {
-        left = left / counts[l];
-        weights[l] = left;
-    }
-    weights
 }

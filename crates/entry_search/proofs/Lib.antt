@@ -1,8 +1,6 @@
--- The successors of an entry, and the nested search through them.
+-- The successors of an entry, and the search through them.
 pub mod Arriving
 pub mod Searching
 pub mod Successors
-pub mod WholeRuns
-pub mod Places
-pub mod SuccessorRuns
+pub mod InBoxes
 pub mod Overflowing

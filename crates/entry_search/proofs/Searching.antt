@@ -1,9 +1,8 @@
 -- The nested search over boxes and cells, turn by turn, in the form in which a proof has the facts. Assumes nothing.
-use Prim.Native.Nat.{ℕ, zero, suc, _+_, _-_, _≤_, _<_}
+use Prim.Native.Nat.{ℕ, _+_, _≤_, _<_}
 use mathlib.Core.List.{List}
 use mathlib.Core.Bool.{true, false}
 use mathlib.Core.Path.{_≡_, refl, sym, _∙_}
-use native.Mathlib.Omega.{arith}
 use Rattle.certificate.specs.declared.Report.{Report}
 use Rattle.certificate.specs.Checks.{fine, orElse}
 use Rattle.certificate.specs.Layout.{cellsOf, boxesOf}
@@ -32,7 +31,7 @@ module _ (s : List ℕ) (e b d n : ℕ) {t : Report} where
   turn h p = sym (loop-round (cellRound s e b) (boxesFrom s e (b + 1)) (cellsOf s) d n h) ∙ p
 
   -- a cell that does not follow is passed over
-  pass-over : d < cellsOf s → follows s e b d ≡ false → cellsFrom s e b d n ≡ t → cellsFrom s e b (d + 1) n ≡ t
+  pub pass-over : d < cellsOf s → follows s e b d ≡ false → cellsFrom s e b d n ≡ t → cellsFrom s e b (d + 1) n ≡ t
   unfolding cellRound lookFault countAfter
   pass-over h f p = sym (or-next fine _ refl) ∙ (rw f at (turn h p))
 
@@ -50,14 +49,3 @@ module _ (s : List ℕ) (e b d n : ℕ) {t : Report} where
   pub stops : d < cellsOf s → follows s e b d ≡ true → (successorFault s e d (n + 1) .number ≡ 0 → ⊥)
       → cellsFrom s e b d n ≡ t → successorFault s e d (n + 1) ≡ t
   stops h f z p = sym (or-stop (successorFault s e d (n + 1)) _ z) ∙ look h f p
-
--- a stretch of cells of which none follows is passed over
-pub skip : (s : List ℕ) (e b d n r : ℕ) {t : Report} → d ≤ r → r ≤ cellsOf s
-    → ((c : ℕ) → d ≤ c → c < r → follows s e b c ≡ false) → cellsFrom s e b d n ≡ t → cellsFrom s e b r n ≡ t
-skip s e b d n r {t} le most none p = go (r - d) d (omega arith) (omega arith) none p
-  where
-    go : (k c : ℕ) → r ≡ c + k → d ≤ c → ((i : ℕ) → c ≤ i → i < r → follows s e b i ≡ false) → cellsFrom s e b c n ≡ t → cellsFrom s e b r n ≡ t
-    go zero c q ge h w = let same : c ≡ r = omega arith in rw same at w
-    go (suc k) c q ge h w =
-        go k (c + 1) (omega arith) (omega arith) (λ i a l. h i (omega arith) l)
-        (pass-over s e b c n (omega arith) (h c (omega arith) (omega arith)) w)

@@ -1,18 +1,18 @@
 -- What judging finds out once of an entry under an arrival box, and the parts of judging that single functions answer for.
-use Prim.Native.Nat.{ℕ, _+_, _-_, _≤_, _<_}
+use Prim.Native.Nat.{ℕ, _+_, _*_, _≤_, _<_}
 use mathlib.Core.List.{List}
-use mathlib.Core.Bool.{Bool, true, false, _&&_}
+use mathlib.Core.Bool.{Bool, true, false}
 use mathlib.Core.Path.{_≡_}
-use lib.Dec.{eqb, leb}
-use lib.ListN.{getD}
+use lib.Dec.{eqb}
+use lib.ListN.{length, getD}
 use Rattle.certificate.specs.declared.Report.{Report}
-use Rattle.certificate.specs.Loops.{pick, everyFrom, loopFrom}
-use Rattle.certificate.specs.Layout.{linksOf, cellsOf, boxesOf, cellOf}
+use Rattle.certificate.specs.Loops.{loopFrom}
+use Rattle.certificate.specs.Layout.{maxCells, linksOf, cellsOf, boxesOf, cellOf}
 use Rattle.network.specs.Network.{entryLimit}
 use Rattle.grid.specs.Successors.{imageLow, imageHigh, imageOver}
 use Rattle.grid.specs.Laws.{ImageOf}
 use Rattle.octets.specs.Tables.{Holds}
-use Rattle.successors.specs.Ranges.{startAt}
+use Rattle.successors.specs.Ranges.{Bounded, inRanges}
 use Rattle.judging.specs.EntryTests.{follows, successorFault, cellRound, boxRound, accepted}
 
 -- the image of entry e's cell under its signal and box b: low and high are its ends, over says which links exceed cap where they are not cut,
@@ -23,15 +23,10 @@ pub record EntryImage (s : List ℕ) (e b : ℕ) (low high : List ℕ) (over : L
   pub over-is : (l : ℕ) → l < linksOf s → getD over l false ≡ imageOver s (entryLimit s e) b (cellOf s e) l
   pub smallest : ImageOf s (entryLimit s e) b (cellOf s e)
 
--- the n runs of successors of entry e under box b: they start where the list says, ascending, all of that size, and no other cell follows
-pub record BoxRuns (s : List ℕ) (e b : ℕ) (starts : List ℕ) (n size : ℕ) : Type 0 where
-  pub most : n ≤ cellsOf s
-  pub some : 0 < n → 0 < size
-  pub inside : (i : ℕ) → startAt s starts n i ≤ cellsOf s
-  pub fits : (i : ℕ) → i < n → startAt s starts n i + size ≤ startAt s starts n (i + 1)
-  pub all : (i : ℕ) → i < n → (c : ℕ) → startAt s starts n i ≤ c → c < startAt s starts n i + size → follows s e b c ≡ true
-  pub before : (c : ℕ) → c < startAt s starts n 0 → follows s e b c ≡ false
-  pub between : (i : ℕ) → i < n → (c : ℕ) → startAt s starts n i + size ≤ c → c < startAt s starts n (i + 1) → follows s e b c ≡ false
+-- the successors of entry e under box b are the cells in the ranges first .. last
+pub record BoxRanges (s : List ℕ) (e b : ℕ) (first last : List ℕ) : Type 0 where
+  pub bounded : Bounded s first last
+  pub same : (c : ℕ) → follows s e b c ≡ inRanges s first last c
 
 -- what the search for entry e finds from box b on, where n successors were looked up before: its first refusal, or accepted
 unfoldable pub boxesFrom : List ℕ → ℕ → ℕ → ℕ → Report
@@ -45,10 +40,25 @@ cellsFrom s e b d n = loopFrom (cellRound s e b) (boxesFrom s e (b + 1)) (cellsO
 unfoldable pub passes : List ℕ → ℕ → ℕ → Bool
 passes s e d = eqb (successorFault s e d 0 .number) 0
 
--- a run of so many cells is taken as a whole first
-abbrev pub longRun : ℕ
-longRun = 16
+-- r of the indices below n pass: not more than there are, and where it is all of them, each passes
+pub record Passed (n r : ℕ) (p : ℕ → Bool) : Type 0 where
+  pub most : r ≤ n
+  pub each : r ≡ n → (i : ℕ) → i < n → p i ≡ true
 
--- the cells first .. end - 1 as successors of entry e, taken as a whole: how many they are, where these are many and every one passes, else 0
-unfoldable pub passedWhole : List ℕ → ℕ → ℕ → ℕ → ℕ
-passedWhole s e first end = pick (leb longRun (end - first) && everyFrom end (passes s e) first) (end - first) 0
+-- the runs that start at the first n elements of the list lie in so many cells
+pub record RunsFit (runs : List ℕ) (n size cells : ℕ) : Type 0 where
+  pub sized : length runs ≡ maxCells
+  pub list-most : n ≤ maxCells
+  pub most : n * size ≤ maxCells
+  pub fits : (i : ℕ) → i < n → getD runs i 0 + size ≤ cells
+
+-- r of their cells pass for entry e: not more than there are, and where it is all of them, each passes
+pub record AllPassed (s : List ℕ) (e : ℕ) (runs : List ℕ) (n size r : ℕ) : Type 0 where
+  pub most : r ≤ n * size
+  pub each : r ≡ n * size → (i j : ℕ) → i < n → j < size → passes s e (getD runs i 0 + j) ≡ true
+
+-- before cell d of box b, with so many successors of the box looked up and none refused: the search of the box goes on from there
+pub record AtCell (s : List ℕ) (e b d looked : ℕ) : Type 0 where
+  pub rest : (n : ℕ) → cellsFrom s e b 0 n ≡ cellsFrom s e b d (n + looked)
+  pub most : looked ≤ d
+  pub inside : d ≤ cellsOf s

@@ -1,16 +1,16 @@
-// The successors of an entry under one arrival box, as runs of cells.
+// The successors of an entry under one arrival box, as ranges of intervals.
 ghost use mathlib.Core.Path.{_≡_};
 ghost use Prim.Native.Nat.{ℕ, _+_, _*_, _<_, _≤_, min};
 ghost use mathlib.Core.Bool.{false};
 ghost use lib.Dec.{ltb};
 ghost use lib.ListN.{getD, length};
-ghost use Rattle.certificate.specs.Layout.{maxBoxes, maxCells, maxLinks, linksOf, boxesOf, entriesOf};
+ghost use Rattle.certificate.specs.Layout.{maxBoxes, maxLinks, linksOf, boxesOf, entriesOf};
 ghost use Rattle.certificate.specs.Loops.{anyTo};
 ghost use Rattle.network.specs.Laws.{Screened};
 ghost use Rattle.judging.specs.Overflow.{boxOverflows};
-ghost use Rattle.cell_tables.specs.Tables.{GridOf, EdgesOf};
+ghost use Rattle.cell_tables.specs.Tables.{CountsOf, EdgesOf};
 ghost use Rattle.entry_setup.specs.Tables.{arrivalRow, CapsOf, ArrivalsOf, EntryEnds, IsTask};
-ghost use Rattle.entry_search.specs.Search.{EntryImage, BoxRuns};
+ghost use Rattle.entry_search.specs.Search.{EntryImage, BoxRanges};
 ghost use Rattle.images.specs.Ends.{endBound};
 use cell_tables::tables as edges_table;
 use certificate::limits;
@@ -18,7 +18,6 @@ use entry_setup::Task;
 use entry_setup::amounts;
 use images::ends;
 use successors::ranges;
-use successors::starts;
 
 // The low or the high ends with the arrivals of a box, which stand at every second place from `at` on: at most cap; and for each link
 // whether its end, not cut at cap, exceeds cap. The answer is whether some link's does.
@@ -47,13 +46,13 @@ fn ends_under(
 // The image of entry e's cell under its signal and box b: the smallest closed box that holds all exact next queues, and which of them
 // exceed cap where they are not cut. `low` and `high` are its ends before arrivals; `from` and `to` receive its ends, `over` what the
 // high ends say, which come last. The answer is whether some link exceeds.
-fn image_of<'a>(
+fn image_of(
     s: &[u8],
     links: usize,
     caps: &[usize; limits::MAX_LINKS],
     arrivals: &[usize; amounts::ARRIVALS],
-    low: &'a [usize; limits::MAX_LINKS],
-    high: &'a [usize; limits::MAX_LINKS],
+    low: &[usize; limits::MAX_LINKS],
+    high: &[usize; limits::MAX_LINKS],
     e: usize,
     b: usize,
     from: &mut [usize; limits::MAX_LINKS],
@@ -83,42 +82,24 @@ fn image_of<'a>(
     )
 }
 
-// What an arrival box gives: how many runs of successors there are, how many cells each has, and whether some link may exceed its cap.
-pub struct Reached {
-    pub count: usize,
-    pub size: usize,
-    pub over: bool,
-}
-
-// The runs of a box, and what its image says of the caps.
-fn with_over(runs: starts::Runs, over: bool) -> Reached
-    ensures { λ r. ⌜ (r .count ≡ runs .count) × (r .size ≡ runs .size) × (r .over ≡ over) ⌝ }
-{
-    Reached {
-        count: runs.count,
-        size: runs.size,
-        over,
-    }
-}
-
-// The runs of successors of an entry under box b, and whether some link may exceed its cap: `runs` is filled with the runs' starts.
-// `low` and `high` are the ends of the entry's image before arrivals.
-pub fn box_runs<'a, 'b>(
+// The ranges of intervals of each link that an entry's successors under box b have, and whether some link may exceed its cap: `first` and
+// `last` receive the ranges. `low` and `high` are the ends of the entry's image before arrivals.
+pub fn box_ranges(
     s: &[u8],
     task: Task,
     links: usize,
-    caps: &'a [usize; limits::MAX_LINKS],
-    counts: &'a [usize; limits::MAX_LINKS],
-    weights: &'a [usize; limits::MAX_LINKS],
+    caps: &[usize; limits::MAX_LINKS],
+    counts: &[usize; limits::MAX_LINKS],
     edges: &[usize; edges_table::EDGES],
     arrivals: &[usize; amounts::ARRIVALS],
-    low: &'b [usize; limits::MAX_LINKS],
-    high: &'b [usize; limits::MAX_LINKS],
+    low: &[usize; limits::MAX_LINKS],
+    high: &[usize; limits::MAX_LINKS],
     b: usize,
-    runs: &mut [u16],
-) -> Reached
-    requires { ⌜ Screened (now s) × GridOf (now s) (now counts) (now weights) links × CapsOf (now s) (now caps) × EdgesOf (now s) (now edges) × ArrivalsOf (now s) (now arrivals) × IsTask (now s) task × EntryEnds (now s) (task .entry) (now low) (now high) × (b < task .boxes) × (length (now runs) ≡ maxCells) ⌝ }
-    ensures { λ r. ⌜ (length (now (runs .exit)) ≡ maxCells) × BoxRuns (now (s .entry)) (task .entry) b (now (runs .exit)) (r .count) (r .size) × (r .over ≡ boxOverflows (now (s .entry)) (task .entry) b) ⌝ }
+    first: &mut [usize; limits::MAX_LINKS],
+    last: &mut [usize; limits::MAX_LINKS],
+) -> bool
+    requires { ⌜ Screened (now s) × CountsOf (now s) (now counts) × (links ≡ linksOf (now s)) × CapsOf (now s) (now caps) × EdgesOf (now s) (now edges) × ArrivalsOf (now s) (now arrivals) × IsTask (now s) task × EntryEnds (now s) (task .entry) (now low) (now high) × (b < task .boxes) × (length (now first) ≡ maxLinks) × (length (now last) ≡ maxLinks) ⌝ }
+    ensures { λ r. ⌜ BoxRanges (now (s .entry)) (task .entry) b (now (first .exit)) (now (last .exit)) × (length (now (first .exit)) ≡ maxLinks) × (length (now (last .exit)) ≡ maxLinks) × (r ≡ boxOverflows (now (s .entry)) (task .entry) b) ⌝ }
 {
     let mut from = [0usize; limits::MAX_LINKS];
     let mut to = [0usize; limits::MAX_LINKS];
@@ -136,9 +117,6 @@ pub fn box_runs<'a, 'b>(
         &mut to,
         &mut over,
     );
-    let mut first = [0usize; limits::MAX_LINKS];
-    let mut last = [0usize; limits::MAX_LINKS];
-    ranges::ranges_of(s, edges, counts, links, &from, &to, &mut first, &mut last);
-    let found = starts::runs_of(s, counts, weights, &first, &last, links, task.cells, runs);
-    with_over(found, any)
+    ranges::ranges_of(s, edges, counts, links, &from, &to, first, last);
+    any
 }

@@ -11,11 +11,9 @@ use Rattle.network.specs.Network.{networkOf, entryLimit}
 use Rattle.network.specs.Flow.{gross}
 use Rattle.network.specs.Image.{lowCorner, highCorner}
 use Rattle.network.specs.Laws.{Screened}
-use Rattle.supply.specs.Supply.{FirstTurns}
 use Rattle.grid.specs.Cells.{lowerOf, upperOf}
 use Rattle.octets.specs.Tables.{Holds}
 use Rattle.cell_tables.specs.Tables.{EdgesOf, GridOf}
-use Rattle.entry_setup.specs.declared.LinkTables.{LinkTables}
 use Rattle.entry_setup.specs.declared.Task.{Task}
 use Rattle.images.specs.Ends.{endBound}
 
@@ -36,13 +34,12 @@ pub record ArrivalsOf (s a : List ℕ) : Type 0 where
 unfoldable pub arrivalEntry : List ℕ → ℕ → ℕ
 arrivalEntry s k = 10000 * u16At s (arrivalAt s (k / arrivalRow) + (2 + 2 * (k % arrivalRow)))
 
--- the tables of a certificate that passes the tests before 12: those of its links, the edges of the links' intervals, and the arrivals
--- of each box
-pub record TablesOf (s : List ℕ) (tables : LinkTables) (edges arrivals : List ℕ) : Type 0 where
+-- the tables of a certificate that passes the tests before 12: how many links it has, and for each how many intervals and its cap; the edges
+-- of the links' intervals, and the arrivals of each box
+pub record TablesOf (s : List ℕ) (links : ℕ) (counts caps edges arrivals : List ℕ) : Type 0 where
   pub screened : Screened s
-  pub grid : GridOf s (tables .counts) (tables .weights) (tables .links)
-  pub cap : CapsOf s (tables .caps)
-  pub turn : FirstTurns s (tables .«first_turns»)
+  pub grid : GridOf s counts links
+  pub cap : CapsOf s caps
   pub edge : EdgesOf s edges
   pub arrival : ArrivalsOf s arrivals
 

@@ -27,11 +27,6 @@ use signal_records::signals;
 // The greatest number of 32 bits: nothing in the table of ranks is above it.
 const ANY_RANK: u32 = 4294967295;
 
-pub struct Edges {
-    pub lower: [usize; limits::MAX_LINKS],
-    pub upper: [usize; limits::MAX_LINKS],
-}
-
 // The most that the table of ranks, which has them raised by one, may have for a successor of an entry of that rank.
 fn bound_for(rank: usize) -> u32
     requires { ⌜ rank < 65536 ⌝ }
@@ -69,25 +64,24 @@ fn interval_in(s: &[u8], digits: &[u8; digits::DIGITS], cell: usize, l: usize) -
     numbers::wide(digits[limits::MAX_LINKS * cell + l])
 }
 
-// The edges of a cell.
+// The edges of a cell: `lower` and `upper` receive them.
 pub fn cell_edges(
     s: &[u8],
     digits: &[u8; digits::DIGITS],
     edges: &[usize; tables::EDGES],
     links: usize,
     cell: usize,
-) -> Edges
-    requires { ⌜ Readable (now s) × DigitsOf (now s) (now digits) × EdgesOf (now s) (now edges) × (links ≡ linksOf (now s)) × (cell < cellsOf (now s)) ⌝ }
-    ensures { λ r. ⌜ CellEdges (now (s .entry)) cell (r .lower) (r .upper) ⌝ }
+    lower: &mut [usize; limits::MAX_LINKS],
+    upper: &mut [usize; limits::MAX_LINKS],
+)
+    requires { ⌜ Readable (now s) × DigitsOf (now s) (now digits) × EdgesOf (now s) (now edges) × (links ≡ linksOf (now s)) × (cell < cellsOf (now s)) × (length (now lower) ≡ maxLinks) × (length (now upper) ≡ maxLinks) ⌝ }
+    ensures { λ _. ⌜ CellEdges (now (s .entry)) cell (now (lower .exit)) (now (upper .exit)) ⌝ }
 {
-    let mut lower = [0usize; limits::MAX_LINKS];
-    let mut upper = [0usize; limits::MAX_LINKS];
     for l in 0..links {
         let i = interval_in(s, digits, cell, l);
         lower[l] = edges[tables::EDGE_ROW * l + i];
         upper[l] = edges[tables::EDGE_ROW * l + i + 1];
     }
-    Edges { lower, upper }
 }
 
 // The most that link l may send, by the bytes of the signal shown before and of the one shown: 0 where it is red, its flow where it is and
@@ -146,7 +140,7 @@ fn entry_limits(s: &[u8], layout: Layout, e: usize) -> [usize; limits::MAX_LINKS
     limits_under(s, layout.links, byte_before(s, layout, e, byte), byte)
 }
 
-// The ends of entry e's image before arrivals, given the edges of its cell.
+// The ends of entry e's image before arrivals, given the edges of its cell: `low` and `high` receive them.
 pub fn entry_ends(
     s: &[u8],
     layout: Layout,
@@ -154,9 +148,11 @@ pub fn entry_ends(
     e: usize,
     lower: &[usize; limits::MAX_LINKS],
     upper: &[usize; limits::MAX_LINKS],
-) -> ends::Ends
-    requires { ⌜ Screened (now s) × LaidOut (now s) layout × FirstTurns (now s) (now first) × (e < entriesOf (now s)) × CellEdges (now s) (cellOf (now s) e) (now lower) (now upper) ⌝ }
-    ensures { λ r. ⌜ EntryEnds (now (s .entry)) e (r .low) (r .high) ⌝ }
+    low: &mut [usize; limits::MAX_LINKS],
+    high: &mut [usize; limits::MAX_LINKS],
+)
+    requires { ⌜ Screened (now s) × LaidOut (now s) layout × FirstTurns (now s) (now first) × (e < entriesOf (now s)) × CellEdges (now s) (cellOf (now s) e) (now lower) (now upper) × (length (now low) ≡ maxLinks) × (length (now high) ≡ maxLinks) ⌝ }
+    ensures { λ _. ⌜ EntryEnds (now (s .entry)) e (now (low .exit)) (now (high .exit)) ⌝ }
 {
     let limits = entry_limits(s, layout, e);
     ends::ends_of(
@@ -167,5 +163,7 @@ pub fn entry_ends(
         first,
         lower,
         upper,
+        low,
+        high,
     )
 }

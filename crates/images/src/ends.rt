@@ -13,11 +13,6 @@ use certificate::limits;
 use octets::numbers;
 use turn_records::turns;
 
-pub struct Ends {
-    pub low: [usize; limits::MAX_LINKS],
-    pub high: [usize; limits::MAX_LINKS],
-}
-
 // Ten thousand times each queue.
 fn scale(links: usize, x: &[usize; limits::MAX_LINKS], ends: &mut [usize; limits::MAX_LINKS])
     requires { ⌜ (links ≤ maxLinks) × ((l : ℕ) → l < links → at (now x) l ≤ 10000) × (length (now ends) ≡ maxLinks) ⌝ }
@@ -119,7 +114,7 @@ fn send(
     pass_on(s, start, sender, upper, highs, highest, lows, lowest, high);
 }
 
-// The ends of the image of the closed box lower .. upper, before arrivals.
+// The ends of the image of the closed box lower .. upper, before arrivals: `low` and `high` receive them.
 pub fn ends_of(
     s: &[u8],
     start: usize,
@@ -128,16 +123,16 @@ pub fn ends_of(
     first: &[usize; limits::MAX_LINKS + 1],
     lower: &[usize; limits::MAX_LINKS],
     upper: &[usize; limits::MAX_LINKS],
-) -> Ends
-    requires { ⌜ NetworkAt (now s) start (turnsOf (now s)) links × FirstTurns (now s) (now first) × WithinCaps (now s) (now lower) × WithinCaps (now s) (now upper) × LimitsFit (now s) (now limits) ⌝ }
-    ensures { λ r. ⌜ EndsBefore (now (s .entry)) (at (now (limits .entry))) (at (now (lower .entry))) (at (now (upper .entry))) (r .low) (r .high) ⌝ }
+    low: &mut [usize; limits::MAX_LINKS],
+    high: &mut [usize; limits::MAX_LINKS],
+)
+    requires { ⌜ NetworkAt (now s) start (turnsOf (now s)) links × FirstTurns (now s) (now first) × WithinCaps (now s) (now lower) × WithinCaps (now s) (now upper) × LimitsFit (now s) (now limits) × (length (now low) ≡ maxLinks) × (length (now high) ≡ maxLinks) ⌝ }
+    ensures { λ _. ⌜ EndsBefore (now (s .entry)) (at (now (limits .entry))) (at (now (lower .entry))) (at (now (upper .entry))) (now (low .exit)) (now (high .exit)) ⌝ }
 {
     let mut lows = [0usize; limits::MAX_TURNS];
     let mut highs = [0usize; limits::MAX_TURNS];
-    let mut low = [0usize; limits::MAX_LINKS];
-    let mut high = [0usize; limits::MAX_LINKS];
-    scale(links, lower, &mut low);
-    scale(links, upper, &mut high);
+    scale(links, lower, low);
+    scale(links, upper, high);
     for l in 0..links {
         send(
             s,
@@ -149,11 +144,10 @@ pub fn ends_of(
             l,
             &mut lows,
             &mut highs,
-            &mut low,
-            &mut high,
+            low,
+            high,
         );
     }
-    Ends { low, high }
 }
 
 // An end with arrivals, cut at cap; all in ten thousandths.

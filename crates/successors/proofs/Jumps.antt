@@ -1,5 +1,5 @@
 -- Which cells lie in ranges: told by their intervals. Assumes nothing.
-use Prim.Native.Nat.{ℕ, _≤_, _<_}
+use Prim.Native.Nat.{ℕ, suc, _-_, _/_, _%_, _≤_, _<_}
 use mathlib.Core.List.{List}
 use mathlib.Core.Bool.{Bool, true, false, _&&_, false≢true}
 use mathlib.Core.Path.{_≡_, refl, sym, _∙_}
@@ -9,11 +9,11 @@ use borrow.Author.Tests.{leb-true, le-leb, lt-leb}
 use lib.ListN.{getD}
 use lib.Dec.{leb}
 use Rattle.certificate.specs.Loops.{every}
-use Rattle.certificate.specs.Layout.{linksOf}
+use Rattle.certificate.specs.Layout.{linksOf, intervalsOf}
 use Rattle.certificate.proofs.Loops.{every-each, each-every}
 use Rattle.certificate.proofs.Tests.{and-both, both-and}
-use Rattle.grid.specs.Cells.{intervalIn}
-use Rattle.successors.specs.Ranges.{inRange, inRanges, NoneIn}
+use Rattle.grid.specs.Cells.{prefixOf, intervalIn}
+use Rattle.successors.specs.Ranges.{inRange, inRanges}
 use Rattle.successors.proofs.Ranging.{below-or}
 
 -- a test that fails at one index does not hold of all
@@ -65,6 +65,15 @@ module _ (s first last : List ℕ) where
       (λ (b : getD first l 0 ≤ intervalIn s c l). too-high c l lt (omega arith))
       (below-or (intervalIn s c l) (getD first l 0))
 
--- none in one stretch of cells after another
-pub none-more : (s first last : List ℕ) (d c r : ℕ) → NoneIn s first last d c → NoneIn s first last c r → NoneIn s first last d r
-none-more s first last d c r p q x a b = ⊎-elim (λ lt. p x a lt) (λ le. q x le b) (below-or x c)
+-- the intervals of a cell as they are read off its number from the last link back: what is left, and the rest
+pub interval-left : (s : List ℕ) (c l rest n : ℕ) → l < linksOf s → rest ≡ prefixOf s c (linksOf s - suc l) → n ≡ intervalsOf s l
+    → (rest % n ≡ intervalIn s c l) × (rest / n ≡ prefixOf s c (linksOf s - l))
+unfolding intervalIn prefixOf
+interval-left s c l rest n lt e f =
+    let up : linksOf s - l ≡ suc (linksOf s - suc l) = omega arith in
+    let same : linksOf s - suc (linksOf s - suc l) ≡ l = omega arith in
+    rw (e, f, up, same) (refl, refl)
+
+pub nothing-left : (s : List ℕ) (c l : ℕ) → l ≡ linksOf s → c ≡ prefixOf s c (linksOf s - l)
+unfolding prefixOf
+nothing-left s c l e = let none : linksOf s - l ≡ 0 = omega arith in rw none

@@ -1,280 +1,304 @@
--- The list of all runs, built link by link: what holds of the runs of one interval of a link holds of all those of its range. Assumes nothing.
-use Prim.Native.Nat.{ℕ, suc, _+_, _*_, _-_, _/_, _%_, _≤_, _<_}
+-- The list of all runs, built link by link: the numbers so far that lie in the ranges, with one link more. Assumes nothing.
+use Prim.Native.Nat.{ℕ, zero, suc, _+_, _*_, _-_, _/_, _%_, _≤_, _<_}
 use mathlib.Core.List.{List}
-use mathlib.Core.Bool.{true}
-use mathlib.Core.Path.{_≡_, refl, sym, _∙_}
-use mathlib.Core.Logic.{⊎-elim}
-use native.Mathlib.Nat.{add-mul, zero-mul, mul-comm, mul-le-mul, suc-mul, one-le-mul, eq-or-lt-of-le, mul-add-div-right, mul-add-mod-self-right, mod-eq-of-lt, div-eq-of-lt, div-add-mod', mod-lt, div-lt-iff-lt-mul, add-mod-right, add-div-right}
+use mathlib.Core.Bool.{Bool, true, false, _&&_, false≢true}
+use mathlib.Core.Path.{_≡_, refl, sym, ap, _∙_}
+use mathlib.Core.Logic.{_⊎_, inl, inr, ⊎-elim}
+use native.Mathlib.Nat.{add-mul, mul-assoc, mul-comm, mul-one, one-mul, zero-mul, suc-mul, mul-le-mul, mul-le-mul-left, mul-le-mul-right, one-le-mul, eq-or-lt-of-le, div-add-mod', mod-lt, div-lt-iff-lt-mul, div-one}
 use native.Mathlib.Numerals.{add-one}
 use native.Mathlib.Omega.{arith}
-use borrow.Author.Tests.{lt-ltb, le-ltb}
+use borrow.Author.Tests.{leb-true}
 use lib.ListN.{getD}
-use Rattle.certificate.specs.Layout.{linksOf, intervalsOf, cellsOf}
+use lib.Dec.{leb}
+use Rattle.certificate.specs.Loops.{pick, every, sumTo}
+use Rattle.certificate.specs.Layout.{maxCells, linksOf, intervalsOf, productOf, cellsOf}
 use Rattle.certificate.specs.Facts.{Readable}
+use Rattle.certificate.proofs.Loops.{every-each, each-every, sum-same}
+use Rattle.certificate.proofs.Tests.{and-both, both-and}
 use Rattle.certificate.proofs.Size.{cells-in-range}
-use Rattle.grid.specs.Cells.{intervalIn}
-use Rattle.cell_tables.specs.Tables.{weightOf}
-use Rattle.successors.specs.Ranges.{inRange, Bounded, Sought, FullAfter, Starts, runSize, runEnd, startAt, RunsOf, repeated, Small}
-use Rattle.successors.proofs.Ranging.{below-or}
-use Rattle.cell_tables.proofs.Blocks.{spanOf, span-next, span-least, block-fits}
-use Rattle.successors.proofs.Jumps.{all-in, each-in, bounds-in}
-use Rattle.successors.proofs.Moves.{moved-in, moved-here, moved-before, moved-after}
-use Rattle.successors.proofs.Runs.{range-filled, run-to, starts-later}
-use Rattle.successors.proofs.Odometer.{Turned, turned-none, turned-all, turned-more, next-sought, same}
+use Rattle.grid.specs.Cells.{prefixOf, intervalIn}
+use Rattle.successors.specs.Ranges.{inRange, inRanges, Bounded, FullAfter, RunsOf, howMany}
+use Rattle.successors.proofs.Ranging.{below-or, same-test}
+use Rattle.successors.proofs.Jumps.{none-in}
+use Rattle.successors.proofs.Counting.{split-place, many-more, none-pass}
 
--- place i of row j, in rows of that size
-split-place : (size j i : ℕ) → i < size → ((j * size + i) / size ≡ j) × ((j * size + i) % size ≡ i)
-split-place size j i lt =
-    let e : (j * size + i) / size ≡ j + i / size = mul-add-div-right (omega arith) _ _ in
-    let z : i / size ≡ 0 = div-eq-of-lt lt in
-    (omega arith, mul-add-mod-self-right _ _ _ ∙ mod-eq-of-lt lt)
-
-row-place : (n size j i : ℕ) → j < n → i < size → j * size + i < n * size
-row-place n size j i h lt =
-    let m : suc j * size ≤ n * size = mul-le-mul h (omega arith) in
-    omega (arith, suc-mul j size)
-
-repeated-row : (a : List ℕ) (size w j i : ℕ) → i < size → repeated a size w (j * size + i) ≡ getD a i 0 + j * w
-unfolding repeated
-repeated-row a size w j i lt = rw (split-place size j i lt .0, split-place size j i lt .1)
-
--- the runs of every block of cells that starts at d on the links from l on: each starts off i after d, and none is left out
-pub record Offsets (s first last : List ℕ) (k l size : ℕ) (off : ℕ → ℕ) : Type 0 where
-  pub some : 1 ≤ size
-  pub most : size ≤ spanOf s l
-  pub start : off 0 ≡ 0
-  pub run : (d : ℕ) → Starts s first last l d → (i : ℕ) → i < size → Starts s first last k (d + off i)
-  pub next : (d : ℕ) → Starts s first last l d → (i : ℕ) → suc i < size → Sought s first last (runEnd s first last k (d + off i)) (d + off (suc i))
-  pub turned : (d : ℕ) → Starts s first last l d → Turned s first last k (d + off (size - 1)) l d
+-- number q of intervals of the first l links: they lie in the ranges
+unfoldable pub inTo : List ℕ → List ℕ → List ℕ → ℕ → ℕ → Bool
+inTo s first last zero q = true
+inTo s first last (suc l) q = inTo s first last l (q / intervalsOf s l) && inRange first last l (q % intervalsOf s l)
 
 -- how many intervals the range of link l has
 abbrev pub rangeSize : List ℕ → List ℕ → ℕ → ℕ
 rangeSize first last l = getD last l 0 + 1 - getD first l 0
 
-module _ (s : List ℕ) (R : Readable s) (first last : List ℕ) (B : Bounded s first last) (k : ℕ) (F : FullAfter s first last k) where
-  -- on the run link there is one run
-  offsets-one : (off : ℕ → ℕ) → off 0 ≡ 0 → Offsets s first last k k 1 off
-  offsets-one off z =
-      let same : (d : ℕ) → d + off 0 ≡ d = λ d. omega (arith, z) in
+-- after l links, f has the starts of n runs of z numbers each: every number so far in the ranges lies in one of them, and they have as many
+-- numbers as there are in the ranges
+pub record Built (s first last : List ℕ) (l n z : ℕ) (f : ℕ → ℕ) : Type 0 where
+  pub fits : (i : ℕ) → i < n → f i + z ≤ productOf s l
+  pub all : (q : ℕ) → q < productOf s l → inTo s first last l q ≡ true → (i : ℕ) × (i < n) × (f i ≤ q) × (q < f i + z)
+  pub number : n * z ≡ howMany (productOf s l) (inTo s first last l)
+
+module _ (s first last : List ℕ) where
+  -- with no link there is one number
+  pub built-none : (f : ℕ → ℕ) → f 0 ≡ 0 → Built s first last 0 1 1 f
+  unfolding productOf inTo sumTo
+  built-none f z =
       record {
-        some = omega arith;
-        most = span-least s R k;
-        start = z;
-        run = λ d S i lt. let none : i ≡ 0 = omega arith in rw (none, same d) S;
-        next = λ d S i lt. absurd (omega arith);
-        turned = λ d S. rw (same d) (turned-none s R first last B k d F S);
+        fits = λ i lt. let e : i ≡ 0 = omega arith in rw (e, z) (omega arith);
+        all = λ q lt h. (0, omega arith, omega arith, omega arith);
+        number = refl;
       }
 
-  -- one link more: row j has the runs of interval j of its range
-  module _ (l size : ℕ) (off to : ℕ → ℕ) (before : l < k) (H : Offsets s first last k (suc l) size off) (filled : getD first l 0 ≤ getD last l 0)
-      (rows : (j i : ℕ) → j < rangeSize first last l → i < size → to (j * size + i) ≡ off i + j * weightOf s l) where
-    exists : l < linksOf s
-    exists = omega (arith, F .exists)
+  module _ (B : Bounded s first last) (l : ℕ) (lt : l < linksOf s) (filled : getD first l 0 ≤ getD last l 0) where
+    below : getD last l 0 < intervalsOf s l
+    below = B .last-most l lt
 
-    module _ (d : ℕ) (S : Starts s first last l d) where
-      module _ (j : ℕ) (h : j < rangeSize first last l) where
-        here : getD first l 0 + j < intervalsOf s l
-        here = omega (arith, B .last-most l exists)
+    some : 0 < intervalsOf s l
+    some = omega (arith, below)
 
-        up : d + j * weightOf s l + intervalIn s d l * weightOf s l ≡ d + (getD first l 0 + j) * weightOf s l
-        up = rw (S .at-first l (omega arith) exists) (omega (arith, add-mul (getD first l 0) j (weightOf s l)))
+    -- the number of them grows by the size of the range
+    number-more : howMany (productOf s (suc l)) (inTo s first last (suc l)) ≡ howMany (productOf s l) (inTo s first last l) * rangeSize first last l
+    unfolding productOf inTo
+    number-more = many-more (getD first l 0) (getD last l 0) filled (inTo s first last l) (productOf s l) (intervalsOf s l) below
 
-        up-at : intervalIn s (d + j * weightOf s l) l ≡ getD first l 0 + j
-        up-at = moved-here s R l d _ _ exists here up
+    -- what is said of a number with one link more
+    parts : (q : ℕ) → q < productOf s (suc l) → inTo s first last (suc l) q ≡ true
+        → (q / intervalsOf s l < productOf s l) × (inTo s first last l (q / intervalsOf s l) ≡ true) × (getD first l 0 ≤ q % intervalsOf s l) × (q % intervalsOf s l ≤ getD last l 0)
+    unfolding productOf inTo
+    parts q h e =
+        let a = and-both _ _ e in
+        let b = and-both _ _ (a .1) in
+        (div-lt-iff-lt-mul some .1 h, a .0, leb-true _ _ (b .0), leb-true _ _ (b .1))
 
-        up-in : (m : ℕ) → m < linksOf s → inRange first last m (intervalIn s (d + j * weightOf s l) m) ≡ true
-        up-in m lt = ⊎-elim low (λ from. ⊎-elim at high (eq-or-lt-of-le from)) (below-or m l)
-          where
-            low : m < l → inRange first last m (intervalIn s (d + j * weightOf s l) m) ≡ true
-            low below = rw (moved-before s R l d (d + j * weightOf s l) _ exists here up m below) (each-in s first last d (S .inside) m lt)
+    product-next : productOf s (suc l) ≡ productOf s l * intervalsOf s l
+    unfolding productOf
+    product-next = refl
 
-            at : l ≡ m → inRange first last m (intervalIn s (d + j * weightOf s l) m) ≡ true
-            at is = rw (← is) (bounds-in s first last _ l (omega (arith, up-at)) (omega (arith, up-at)))
+    module _ (n z : ℕ) (f : ℕ → ℕ) (H : Built s first last l n z f) where
+      -- the numbers with interval j of link l fit
+      pub next-fits : (m j : ℕ) → m < n → 1 ≤ z → j < intervalsOf s l → f m * intervalsOf s l + j < productOf s (suc l)
+      next-fits m j below-n one h =
+          let u : suc (f m) * intervalsOf s l ≤ productOf s l * intervalsOf s l = mul-le-mul-right (intervalsOf s l) (omega (arith, H .fits m below-n)) in
+          omega (arith, product-next, suc-mul (f m) (intervalsOf s l))
 
-            high : l < m → inRange first last m (intervalIn s (d + j * weightOf s l) m) ≡ true
-            high above = rw (moved-after s R l d (d + j * weightOf s l) _ exists here up m above lt) (each-in s first last d (S .inside) m lt)
+      -- before the run link: a row for every interval of the range
+      module _ (one : z ≡ 1) (g : ℕ → ℕ)
+          (rows : (j m : ℕ) → getD first l 0 ≤ j → j ≤ getD last l 0 → m < n → g ((j - getD first l 0) * n + m) ≡ f m * intervalsOf s l + j) where
+        row-fits : (i : ℕ) → i < rangeSize first last l * n → 0 < n → g i + 1 ≤ productOf s (suc l)
+        row-fits i h any =
+            let j : i / n < rangeSize first last l = div-lt-iff-lt-mul any .1 h in
+            let m : i % n < n = mod-lt i any in
+            let back : getD first l 0 + i / n - getD first l 0 ≡ i / n = omega arith in
+            let is : g ((getD first l 0 + i / n - getD first l 0) * n + i % n) ≡ f (i % n) * intervalsOf s l + (getD first l 0 + i / n) = rows (getD first l 0 + i / n) (i % n) (omega arith) (omega arith) m in
+            let at : g i ≡ f (i % n) * intervalsOf s l + (getD first l 0 + i / n) = rw (back, div-add-mod' i n) at is in
+            omega (arith, next-fits (i % n) (getD first l 0 + i / n) m (omega arith) (omega (arith, below)))
 
-        up-starts : Starts s first last (suc l) (d + j * weightOf s l)
-        up-starts =
+        row-place : (j m : ℕ) → j < rangeSize first last l → m < n → j * n + m < rangeSize first last l * n
+        row-place j m h lt-n =
+            let u : suc j * n ≤ rangeSize first last l * n = mul-le-mul-right n h in
+            omega (arith, suc-mul j n)
+
+        none-listed : n ≡ 0 → (i : ℕ) → i < rangeSize first last l * n → ⊥
+        none-listed e i h = let w : i < rangeSize first last l * 0 = rw e at h in omega arith
+
+        pub built-rows : Built s first last (suc l) (rangeSize first last l * n) 1 g
+        built-rows =
             record {
-              exists = omega (arith, moved-in s R l d _ _ exists here up, block-fits s R l d (S .exists) (omega (arith, exists)));
-              inside = all-in s first last _ up-in;
-              at-first = λ m from lt. moved-after s R l d _ _ exists here up m from lt ∙ S .at-first m (omega arith) lt;
+              fits = λ i h. ⊎-elim (λ (e : n ≡ 0). absurd (none-listed e i h)) (λ any. row-fits i h any) (zero-or n);
+              all = λ q h e.
+                  let p = parts q h e in
+                  let x = H .all (q / intervalsOf s l) (p .0) (p .1) in
+                  let is : f (x .0) ≡ q / intervalsOf s l = omega (arith, x .2, one) in
+                  let r = rows (q % intervalsOf s l) (x .0) (p .2) (p .3) (x .1) in
+                  let v : g ((q % intervalsOf s l - getD first l 0) * n + x .0) ≡ q = r ∙ rw is (div-add-mod' q (intervalsOf s l)) in
+                  ((q % intervalsOf s l - getD first l 0) * n + x .0, row-place _ _ (omega (arith, p .2, p .3)) (x .1), omega arith, omega arith);
+              number =
+                  let w : n * 1 ≡ howMany (productOf s l) (inTo s first last l) = rw one at (H .number) in
+                  mul-one _ ∙ mul-comm _ n ∙ rw (number-more, ← w, mul-one);
+            }
+          where
+            zero-or : (k : ℕ) → (k ≡ 0) ⊎ (0 < k)
+            zero-or zero = inl refl
+            zero-or (suc k) = inr (omega arith)
+
+      -- from the run link on: a run has the range, where a run is one number so far or the range is full
+      module _ (how : (z ≡ 1) ⊎ ((getD first l 0 ≡ 0) × (getD last l 0 + 1 ≡ intervalsOf s l))) (g : ℕ → ℕ)
+          (first-row : (m : ℕ) → m < n → g m ≡ f m * intervalsOf s l + getD first l 0) where
+        run-fits : (i : ℕ) → i < n → g i + z * rangeSize first last l ≤ productOf s (suc l)
+        run-fits i h =
+            ⊎-elim
+            (λ (e : z ≡ 1).
+            let u : suc (f i) * intervalsOf s l ≤ productOf s l * intervalsOf s l = mul-le-mul-right (intervalsOf s l) (omega (arith, H .fits i h)) in
+            rw (e, one-mul (rangeSize first last l)) (omega (arith, product-next, suc-mul (f i) (intervalsOf s l), first-row i h, below)))
+            (λ (e : (getD first l 0 ≡ 0) × (getD last l 0 + 1 ≡ intervalsOf s l)).
+            let size : rangeSize first last l ≡ intervalsOf s l = omega (arith, e .0, e .1) in
+            let u : (f i + z) * intervalsOf s l ≤ productOf s l * intervalsOf s l = mul-le-mul-right (intervalsOf s l) (H .fits i h) in
+            rw size (omega (arith, product-next, add-mul (f i) z (intervalsOf s l), first-row i h, e .0)))
+            how
+
+        run-has : (q i : ℕ) → i < n → f i ≤ q / intervalsOf s l → q / intervalsOf s l < f i + z → getD first l 0 ≤ q % intervalsOf s l → q % intervalsOf s l ≤ getD last l 0
+            → (g i ≤ q) × (q < g i + z * rangeSize first last l)
+        run-has q i h a b low high =
+            let back = div-add-mod' q (intervalsOf s l) in
+            ⊎-elim
+            (λ (e : z ≡ 1).
+            let is : q / intervalsOf s l ≡ f i = omega arith in
+            let v : f i * intervalsOf s l + q % intervalsOf s l ≡ q = rw is at back in
+            rw (e, one-mul (rangeSize first last l)) (omega (arith, first-row i h), omega (arith, first-row i h)))
+            (λ (e : (getD first l 0 ≡ 0) × (getD last l 0 + 1 ≡ intervalsOf s l)).
+            let size : rangeSize first last l ≡ intervalsOf s l = omega (arith, e .0, e .1) in
+            let u : f i * intervalsOf s l ≤ q / intervalsOf s l * intervalsOf s l = mul-le-mul-right (intervalsOf s l) a in
+            let w : suc (q / intervalsOf s l) * intervalsOf s l ≤ (f i + z) * intervalsOf s l = mul-le-mul-right (intervalsOf s l) b in
+            rw size (omega (arith, first-row i h, e .0), omega (arith, first-row i h, e .0, e .1, suc-mul (q / intervalsOf s l) (intervalsOf s l), add-mul (f i) z (intervalsOf s l))))
+            how
+
+        pub built-run : Built s first last (suc l) n (z * rangeSize first last l) g
+        built-run =
+            record {
+              fits = run-fits;
+              all = λ q h e.
+                  let p = parts q h e in
+                  let x = H .all (q / intervalsOf s l) (p .0) (p .1) in
+                  let v = run-has q (x .0) (x .1) (x .2) (x .3) (p .2) (p .3) in
+                  (x .0, x .1, v .0, v .1);
+              number = sym (mul-assoc n z (rangeSize first last l)) ∙ rw (number-more, H .number);
             }
 
-        place : (i : ℕ) → i < size → d + to (j * size + i) ≡ d + j * weightOf s l + off i
-        place i lt = omega (arith, rows j i h lt)
-
-        row-run : (i : ℕ) → i < size → Starts s first last k (d + to (j * size + i))
-        row-run i lt = rw (place i lt) (H .run _ up-starts i lt)
-
-        row-next : (i : ℕ) → suc i < size → Sought s first last (runEnd s first last k (d + to (j * size + i))) (d + to (j * size + suc i))
-        row-next i lt = rw (place i (omega arith), place (suc i) lt) (H .next _ up-starts i lt)
-
-        -- the last run of the row
-        end-run : Starts s first last k (d + j * weightOf s l + off (size - 1))
-        end-run = H .run _ up-starts (size - 1) (omega (arith, H .some))
-
-        end-turned : Turned s first last k (d + j * weightOf s l + off (size - 1)) (suc l) (d + j * weightOf s l)
-        end-turned = H .turned _ up-starts
-
-        end-at : intervalIn s (d + j * weightOf s l + off (size - 1)) l ≡ getD first l 0 + j
-        end-at = sym (same s R first last B k _ F end-run l _ before end-turned l (omega arith)) ∙ up-at
-
-        row-ends : suc j < rangeSize first last l → Sought s first last (runEnd s first last k (d + to (j * size + (size - 1)))) (d + to (suc j * size + 0))
-        row-ends more =
-            let e : d + to (suc j * size + 0) ≡ d + j * weightOf s l + weightOf s l = omega (arith, rows (suc j) 0 more (omega (arith, H .some)), H .start, suc-mul j (weightOf s l)) in
-            rw (place (size - 1) (omega (arith, H .some)), e) (next-sought s R first last B k _ F end-run l _ before end-turned _ (omega (arith, end-at)) refl)
-
-        block-ends : suc j ≡ rangeSize first last l → Turned s first last k (d + to (j * size + (size - 1))) l d
-        block-ends all =
-            let is : getD last l 0 - getD first l 0 ≡ j = omega arith in
-            let back : d ≡ d + j * weightOf s l - (getD last l 0 - getD first l 0) * weightOf s l = rw is (omega arith) in
-            rw (place (size - 1) (omega (arith, H .some))) (turned-more s R first last B k _ F end-run l _ before end-turned d (omega (arith, end-at)) back)
-
-      all-run : (i : ℕ) → i < rangeSize first last l * size → Starts s first last k (d + to i)
-      all-run i lt =
-          let h : i / size < rangeSize first last l = div-lt-iff-lt-mul (H .some) .1 lt in
-          rw (div-add-mod' i size) at (row-run (i / size) h (i % size) (mod-lt i (H .some)))
-
-      all-next : (i : ℕ) → suc i < rangeSize first last l * size → Sought s first last (runEnd s first last k (d + to i)) (d + to (suc i))
-      all-next i lt =
-          let below : i < rangeSize first last l * size = omega arith in
-          let h : i / size < rangeSize first last l = div-lt-iff-lt-mul (H .some) .1 below in
-          let is = div-add-mod' i size in
-          ⊎-elim
-          (λ (e : suc (i % size) ≡ size).
-          let last-one : i % size ≡ size - 1 = omega arith in
-          let up-one : suc (i / size) * size + 0 ≡ suc i = omega (arith, suc-mul (i / size) size) in
-          let same-place : i / size * size + (size - 1) ≡ i = omega arith in
-          let under : suc i / size < rangeSize first last l = div-lt-iff-lt-mul (H .some) .1 lt in
-          let more : suc (i / size) < rangeSize first last l = rw (split-place size (suc (i / size)) 0 (H .some) .0) at (rw (← up-one) at under) in
-          rw (same-place, up-one) at (row-ends (i / size) h more))
-          (λ (b : suc (i % size) < size).
-          let up-one : i / size * size + suc (i % size) ≡ suc i = omega arith in
-          rw (is, up-one) at (row-next (i / size) h (i % size) b))
-          (eq-or-lt-of-le (mod-lt i (H .some)))
-
-      all-turned : Turned s first last k (d + to (rangeSize first last l * size - 1)) l d
-      all-turned =
-          let n = rangeSize first last l in
-          let one : suc (n - 1) ≡ n = omega arith in
-          let whole : n * size ≡ (n - 1) * size + size = rw one at (suc-mul (n - 1) size) in
-          let e : (n - 1) * size + (size - 1) ≡ n * size - 1 = omega (arith, H .some) in
-          rw e at (block-ends (n - 1) (omega arith) one)
-
-    offsets-more : Offsets s first last k l (rangeSize first last l * size) to
-    offsets-more =
-        record {
-          some = one-le-mul (omega arith) (H .some);
-          most =
-              let m : rangeSize first last l * size ≤ intervalsOf s l * weightOf s l = mul-le-mul (omega (arith, B .last-most l exists)) (H .most) in
-              omega (arith, span-next s l exists, mul-comm (weightOf s l) (intervalsOf s l));
-          start =
-              let none : 0 * size + 0 ≡ 0 = omega (arith, zero-mul size) in
-              omega (arith, rw none at (rows 0 0 (omega arith) (H .some)), H .start, zero-mul (weightOf s l));
-          run = all-run;
-          next = all-next;
-          turned = all-turned;
-        }
-
--- an element of a list of cells, and past the last
-pub start-in : (s a : List ℕ) (n i : ℕ) → i < n → startAt s a n i ≡ getD a i 0
-unfolding startAt
-start-in s a n i lt = rw (lt-ltb i n lt)
-
-pub start-past : (s a : List ℕ) (n i : ℕ) → n ≤ i → startAt s a n i ≡ cellsOf s
-unfolding startAt
-start-past s a n i le = rw (le-ltb i n le)
-
-pub start-most : (s a : List ℕ) (n : ℕ) → ((i : ℕ) → i < n → startAt s a n i ≤ cellsOf s) → (i : ℕ) → startAt s a n i ≤ cellsOf s
-start-most s a n h i = ⊎-elim (λ lt. h i lt) (λ le. omega (arith, start-past s a n i le)) (below-or i n)
-
--- the first `size` values of f are the starts of the runs of the block of cells that starts at base on the links from l on
-pub record Listed (s first last : List ℕ) (k l size : ℕ) (f : ℕ → ℕ) (base : ℕ) : Type 0 where
-  pub offsets : Offsets s first last k l size (λ i. f i - base)
-  pub least : (i : ℕ) → i < size → base ≤ f i
-
-module _ (s : List ℕ) (R : Readable s) (first last : List ℕ) (B : Bounded s first last) (k : ℕ) (F : FullAfter s first last k) (base : ℕ) (S : Starts s first last 0 base) where
-  pub listed-one : (f : ℕ → ℕ) → f 0 ≡ base → Listed s first last k k 1 f base
-  listed-one f e =
-      record {
-        offsets = offsets-one s R first last B k F _ (omega arith);
-        least = λ i lt. let none : i ≡ 0 = omega arith in rw (none, e) (omega arith);
-      }
-
-  -- one link more: the list repeated for every interval of its range
-  pub listed-more : (l size w : ℕ) (a : List ℕ) (f : ℕ → ℕ) → l < k → w ≡ weightOf s l → Listed s first last k (suc l) size (λ i. getD a i 0) base
-      → ((i : ℕ) → i < rangeSize first last l * size → f i ≡ repeated a size w i) → Listed s first last k l (rangeSize first last l * size) f base
-  listed-more l size w a f before w-is L h =
-      record {
-        offsets = offsets-more s R first last B k F l size _ _ before (L .offsets) (range-filled s first last base l (S .inside) (omega (arith, F .exists))) rows;
-        least = λ i lt.
-            let at : i / size < rangeSize first last l = div-lt-iff-lt-mul (L .offsets .some) .1 lt in
-            let is = value (i / size) (i % size) at (mod-lt i (L .offsets .some)) in
-            omega (arith, rw (div-add-mod' i size) at is, L .least (i % size) (mod-lt i (L .offsets .some)));
-      }
+  -- the cells in the ranges are the numbers of all links
+  to-each : (c l : ℕ) → l ≤ linksOf s → inTo s first last l (prefixOf s c (linksOf s - l)) ≡ true → (m : ℕ) → m < l → inRange first last m (intervalIn s c m) ≡ true
+  unfolding inTo prefixOf intervalIn
+  to-each c zero le h m lt = absurd (omega arith)
+  to-each c (suc l) le h m lt =
+      let a = and-both _ _ h in
+      let up : linksOf s - l ≡ suc (linksOf s - suc l) = omega arith in
+      let same : linksOf s - suc (linksOf s - suc l) ≡ l = omega arith in
+      let rest : inTo s first last l (prefixOf s c (linksOf s - l)) ≡ true = rw (up, same) (a .0) in
+      ⊎-elim
+      (λ (is : l ≡ m). rw (← is) (a .1))
+      (λ (less : m < l). to-each c l (omega arith) rest m less)
+      (last-or m l lt)
     where
-      value : (j i : ℕ) → j < rangeSize first last l → i < size → f (j * size + i) ≡ getD a i 0 + j * weightOf s l
-      value j i lt below = h (j * size + i) (row-place _ size j i lt below) ∙ repeated-row a size w j i below ∙ rw w-is
+      last-or : (m l : ℕ) → m < suc l → (l ≡ m) ⊎ (m < l)
+      last-or m l h = ⊎-elim (λ a. inr a) (λ (b : l ≤ m). inl (omega arith)) (below-or m l)
 
-      rows : (j i : ℕ) → j < rangeSize first last l → i < size → f (j * size + i) - base ≡ getD a i 0 - base + j * weightOf s l
-      rows j i lt below = omega (arith, value j i lt below, L .least i below)
+  from-each : (c l : ℕ) → l ≤ linksOf s → ((m : ℕ) → m < l → inRange first last m (intervalIn s c m) ≡ true) → inTo s first last l (prefixOf s c (linksOf s - l)) ≡ true
+  unfolding inTo prefixOf intervalIn
+  from-each c zero le h = refl
+  from-each c (suc l) le h =
+      let up : linksOf s - l ≡ suc (linksOf s - suc l) = omega arith in
+      let same : linksOf s - suc (linksOf s - suc l) ≡ l = omega arith in
+      let rest : inTo s first last l (prefixOf s c (linksOf s - l)) ≡ true = from-each c l (omega arith) (λ m lt. h m (omega arith)) in
+      both-and _ _ (rw (up, same) at rest) (h l (omega arith))
 
-  module _ (l size : ℕ) (f : ℕ → ℕ) (le : l ≤ k) (L : Listed s first last k l size f base) where
-    listed-run : (i : ℕ) → i < size → Starts s first last k (f i)
-    listed-run i lt =
-        let e : base + (f i - base) ≡ f i = omega (arith, L .least i lt) in
-        rw e at (L .offsets .run base (starts-later s first last 0 l base (omega arith) S) i lt)
+  in-all : (c : ℕ) → inTo s first last (linksOf s) c ≡ inRanges s first last c
+  unfolding inRanges prefixOf
+  in-all c =
+      let none : linksOf s - linksOf s ≡ 0 = omega arith in
+      same-test _ _
+      (λ h. each-every (linksOf s) _ (to-each c (linksOf s) (omega arith) (rw none h)))
+      (λ h. rw none at (from-each c (linksOf s) (omega arith) (every-each (linksOf s) _ h)))
 
-    pub listed-small : Small size f
-    listed-small i lt = omega (arith, listed-run i lt .exists, cells-in-range s R)
+  -- with all links these are the runs of the ranges
+  pub built-all : (n z : ℕ) (a : List ℕ) → n ≤ maxCells → Built s first last (linksOf s) n z (λ i. getD a i 0) → RunsOf s first last a n z
+  built-all n z a most H =
+      record {
+        most = most;
+        fits = H .fits;
+        all = λ c lt h. H .all c lt (in-all c ∙ h);
+        number = H .number ∙ sum-same (cellsOf s) _ _ (λ c lt. rw (in-all c));
+      }
 
-    pub listed-fits : size ≤ cellsOf s
-    listed-fits = omega (arith, L .offsets .most, block-fits s R l base (S .exists) (omega (arith, F .exists)))
+  -- no runs where a range is empty
+  pub built-empty : (l : ℕ) (a : List ℕ) → l < linksOf s → getD last l 0 < getD first l 0 → RunsOf s first last a 0 0
+  built-empty l a lt h =
+      record {
+        most = omega arith;
+        fits = λ i w. absurd (omega arith);
+        all = λ c w e. absurd (false≢true (sym (none-in s first last l lt h c) ∙ e));
+        number = sym (none-pass (cellsOf s) _ (λ c w. none-in s first last l lt h c));
+      }
 
-  -- with the first link done, these are all runs
-  module _ (size : ℕ) (a : List ℕ) (Q : Sought s first last 0 base) (L : Listed s first last k 0 size (λ i. getD a i 0) base) where
-    back : (i : ℕ) → i < size → base + (getD a i 0 - base) ≡ getD a i 0
-    back i lt = omega (arith, L .least i lt)
+-- the list of n starts after l links, as the code has it; k is the run link, z the size of a run so far
+pub record Listing (s first last : List ℕ) (k l n z : ℕ) (a : List ℕ) : Type 0 where
+  pub built : Built s first last l n z (λ i. getD a i 0)
+  pub one : l ≤ k → z ≡ 1
+  pub most : n ≤ productOf s l
+  pub size-most : z ≤ productOf s l
+  pub size-least : 1 ≤ z
 
-    after : (i : ℕ) → i < size → Sought s first last (runEnd s first last k (getD a i 0)) (startAt s a size (suc i))
-    after i lt =
-        ⊎-elim
-        (λ (e : suc i ≡ size).
-        let is : size - 1 ≡ i = omega arith in
-        let T : Turned s first last k (getD a i 0) 0 base = rw (is, back i lt) at (L .offsets .turned base S) in
-        rw (e, start-past s a size size (omega arith)) (turned-all s R first last B k _ F (listed-run 0 size _ (omega arith) L i lt) base T))
-        (λ (more : suc i < size). rw (start-in s a size (suc i) more) (rw (back i lt, back (suc i) more) at (L .offsets .next base S i more)))
-        (eq-or-lt-of-le lt)
+module _ (s first last : List ℕ) (R : Readable s) (B : Bounded s first last) (k : ℕ) (F : FullAfter s first last k) where
+  pub listing-none : (a : List ℕ) → getD a 0 0 ≡ 0 → Listing s first last k 0 1 1 a
+  unfolding productOf
+  listing-none a e =
+      record {
+        built = built-none s first last (λ i. getD a i 0) e;
+        one = λ le. refl;
+        most = omega arith;
+        size-most = omega arith;
+        size-least = omega arith;
+      }
 
-    pub listed-all : RunsOf s first last a size (runSize s first last k)
-    listed-all =
+  module _ (l n z : ℕ) (a : List ℕ) (lt : l < linksOf s) (filled : getD first l 0 ≤ getD last l 0) (H : Listing s first last k l n z a) where
+    range-most : rangeSize first last l ≤ intervalsOf s l
+    range-most = omega (arith, B .last-most l lt)
+
+    pub product-fits : productOf s (suc l) ≤ maxCells
+    unfolding productOf
+    product-fits = R .grid l lt .product-most
+
+    -- the next list, and the next runs, have no more than there are numbers
+    pub list-fits : rangeSize first last l * n ≤ productOf s (suc l)
+    unfolding productOf
+    list-fits =
+        let m : rangeSize first last l * n ≤ intervalsOf s l * productOf s l = mul-le-mul range-most (H .most) in
+        omega (arith, mul-comm (intervalsOf s l) (productOf s l))
+
+    pub size-fits : z * rangeSize first last l ≤ productOf s (suc l)
+    unfolding productOf
+    size-fits = mul-le-mul (H .size-most) range-most
+
+    pub number-fits : (m to : ℕ) → m < n → to ≤ getD last l 0 → getD a m 0 * intervalsOf s l + to ≤ maxCells
+    number-fits m to h le = omega (arith, product-fits, next-fits s first last B l lt filled n z _ (H .built) m to h (H .size-least) (omega (arith, B .last-most l lt)))
+
+    pub list-most : rangeSize first last l * n ≤ maxCells
+    list-most = omega (arith, list-fits, product-fits)
+
+    least : 1 ≤ productOf s (suc l)
+    unfolding productOf
+    least = one-le-mul (omega (arith, H .size-most, H .size-least)) (R .grid l lt .count-least)
+
+    grown : n ≤ productOf s (suc l)
+    unfolding productOf
+    grown =
+        let m : productOf s l * 1 ≤ productOf s l * intervalsOf s l = mul-le-mul-left (productOf s l) (R .grid l lt .count-least) in
+        omega (arith, H .most, mul-one (productOf s l))
+
+    pub run-most : n ≤ maxCells
+    run-most = omega (arith, grown, product-fits)
+
+    -- one link more before the run link: a row for every interval of its range; r is how many numbers there are then, c the link's count
+    pub listing-rows : (r c : ℕ) (b : List ℕ) → l < k → z ≡ 1 → r ≡ rangeSize first last l * n → c ≡ intervalsOf s l
+        → ((j m : ℕ) → getD first l 0 ≤ j → j ≤ getD last l 0 → m < n → getD b ((j - getD first l 0) * n + m) 0 ≡ getD a m 0 * c + j)
+        → Listing s first last k (suc l) r 1 b
+    listing-rows r c b h one r-is c-is rows =
         record {
-          most = listed-fits 0 size _ (omega arith) L;
-          start =
-              let some = L .offsets .some in
-              let e : getD a 0 0 ≡ base = omega (arith, L .offsets .start, L .least 0 some) in
-              rw (start-in s a size 0 some, e) Q;
-          run = λ i lt. rw (start-in s a size i lt) (run-to s R first last B k _ F (listed-run 0 size _ (omega arith) L i lt));
-          next = λ i lt. let more : i + 1 ≡ suc i = omega arith in rw (start-in s a size i lt, more) (after i lt);
+          built = rw r-is (built-rows s first last B l lt filled n z _ (H .built) one (λ i. getD b i 0) (λ j m from to below-n. rw c-is at (rows j m from to below-n)));
+          one = λ le. refl;
+          most = omega (arith, list-fits);
+          size-most = omega (arith, least);
+          size-least = omega arith;
         }
 
--- no runs where there is no cell in the ranges
-pub listed-none : (s first last a : List ℕ) (size : ℕ) → Sought s first last 0 (cellsOf s) → RunsOf s first last a 0 size
-unfolding startAt
-listed-none s first last a size Q =
-    record { most = omega arith; start = Q; run = λ i lt. absurd (omega arith); next = λ i lt. absurd (omega arith) }
-
--- how the list is filled: what is there already, and one element more
-pub repeated-first : (a : List ℕ) (size w i : ℕ) → i < size → getD a i 0 ≡ repeated a size w i
-unfolding repeated
-repeated-first a size w i lt = rw (mod-eq-of-lt lt, div-eq-of-lt lt) (omega (arith, zero-mul w))
-
-pub repeated-more : (a : List ℕ) (size w i : ℕ) → 1 ≤ size → size ≤ i → repeated a size w (i - size) + w ≡ repeated a size w i
-unfolding repeated
-repeated-more a size w i some le =
-    let e : i - size + size ≡ i = omega arith in
-    let m : i % size ≡ (i - size) % size = rw e at (add-mod-right (i - size) size) in
-    let q : i / size ≡ (i - size) / size + 1 = rw e at (add-div-right (i - size) some) in
-    rw (m, q, add-one) (omega (arith, suc-mul ((i - size) / size) w))
+    -- one from the run link on: its first interval in place, since a run has the others
+    pub listing-run : (c : ℕ) (b : List ℕ) → k ≤ l → c ≡ intervalsOf s l
+        → ((m : ℕ) → m < n → getD b m 0 ≡ getD a m 0 * c + getD first l 0)
+        → Listing s first last k (suc l) n (z * rangeSize first last l) b
+    listing-run c b h c-is row =
+        let how : (z ≡ 1) ⊎ ((getD first l 0 ≡ 0) × (getD last l 0 + 1 ≡ intervalsOf s l)) = ⊎-elim (λ (is : k ≡ l). inl (H .one (omega arith))) (λ less. inr (F .from-zero l less lt, F .to-end l less lt)) (eq-or-lt-of-le h) in
+        record {
+          built = built-run s first last B l lt filled n z _ (H .built) how (λ i. getD b i 0) (λ m below-n. rw c-is at (row m below-n));
+          one = λ le. absurd (omega arith);
+          most = omega (arith, grown);
+          size-most = omega (arith, size-fits);
+          size-least = one-le-mul (H .size-least) (omega (arith, filled));
+        }

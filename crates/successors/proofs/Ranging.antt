@@ -145,7 +145,7 @@ range-meets s low high first last F L =
       meet = λ l i lt h. meets-parts s l i _ _ ∙ rw (← L l lt .to i h, ← F l lt .from i h) (and-swap (leb i (getD last l 0)) (leb (getD first l 0) i));
     }
 
-same-test : (a b : Bool) → (a ≡ true → b ≡ true) → (b ≡ true → a ≡ true) → a ≡ b
+pub same-test : (a b : Bool) → (a ≡ true → b ≡ true) → (b ≡ true → a ≡ true) → a ≡ b
 same-test true b p q = sym (p refl)
 same-test false true p q = q refl
 same-test false false p q = refl

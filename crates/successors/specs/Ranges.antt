@@ -1,16 +1,15 @@
 -- The ranges of intervals that meet an image, and the runs of cells in them.
-use Prim.Native.Nat.{ℕ, _+_, _*_, _-_, _/_, _%_, _≤_, _<_}
+use Prim.Native.Nat.{ℕ, _+_, _*_, _≤_, _<_}
 use mathlib.Core.List.{List}
-use mathlib.Core.Bool.{Bool, true, false, _&&_, cond}
+use mathlib.Core.Bool.{Bool, true, _&&_, cond}
 use mathlib.Core.Path.{_≡_}
 use lib.ListN.{getD}
 use lib.Dec.{leb, ltb}
-use Rattle.certificate.specs.Loops.{pick, every}
+use Rattle.certificate.specs.Loops.{pick, every, sumTo}
 use Rattle.certificate.specs.Layout.{maxCells, linksOf, capOf, intervalsOf, cellsOf}
 use Rattle.grid.specs.Intervals.{isInner, lowerEdge, upperEdge}
 use Rattle.grid.specs.Cells.{intervalIn}
 use Rattle.grid.specs.Successors.{meets}
-use Rattle.cell_tables.specs.Tables.{weightOf}
 
 -- the low end of a range of ten thousandths lies below the upper edge of interval i, or at it for the last, as in `meets`
 unfoldable pub lowMeets : List ℕ → ℕ → ℕ → ℕ → Bool
@@ -43,57 +42,24 @@ pub record RangesOf (s low high first last : List ℕ) : Type 0 where
   pub bounded : Bounded s first last
   pub meet : (l i : ℕ) → l < linksOf s → i < intervalsOf s l → meets s l i (getD low l 0) (getD high l 0) ≡ inRange first last l i
 
--- no cell from d up to r lies in the ranges
-abbrev pub NoneIn : List ℕ → List ℕ → List ℕ → ℕ → ℕ → Type 0
-NoneIn s first last d r = (c : ℕ) → d ≤ c → c < r → inRanges s first last c ≡ false
-
--- r is the first cell from d on that lies in the ranges, and the number of cells where there is none
-pub record Sought (s first last : List ℕ) (d r : ℕ) : Type 0 where
-  pub least : d ≤ r
-  pub most : r ≤ cellsOf s
-  pub none : NoneIn s first last d r
-  pub found : r < cellsOf s → inRanges s first last r ≡ true
-
--- every cell from d up to the end r lies in the ranges
-pub record RunTo (s first last : List ℕ) (d r : ℕ) : Type 0 where
-  pub least : d < r
-  pub most : r ≤ cellsOf s
-  pub all : (c : ℕ) → d ≤ c → c < r → inRanges s first last c ≡ true
-
 -- every interval of the links after k lies in its range: a run of cells takes all of them in
 pub record FullAfter (s first last : List ℕ) (k : ℕ) : Type 0 where
   pub exists : k < linksOf s
   pub from-zero : (l : ℕ) → k < l → l < linksOf s → getD first l 0 ≡ 0
   pub to-end : (l : ℕ) → k < l → l < linksOf s → getD last l 0 + 1 ≡ intervalsOf s l
 
--- a run starts at cell d: it lies in the ranges, at the first interval of the range on link k and on every link after it
-pub record Starts (s first last : List ℕ) (k d : ℕ) : Type 0 where
-  pub exists : d < cellsOf s
-  pub inside : inRanges s first last d ≡ true
-  pub at-first : (l : ℕ) → k ≤ l → l < linksOf s → intervalIn s d l ≡ getD first l 0
+-- cell c lies in one of the n runs of that size that start where the list says
+abbrev pub InRun : List ℕ → ℕ → ℕ → ℕ → Type 0
+InRun starts n size c = (i : ℕ) × (i < n) × (getD starts i 0 ≤ c) × (c < getD starts i 0 + size)
 
--- how many cells a run has, and the end of the run that starts at d
-abbrev pub runSize : List ℕ → List ℕ → List ℕ → ℕ → ℕ
-runSize s first last k = (getD last k 0 + 1 - getD first k 0) * weightOf s k
+-- of how many numbers below n the test holds
+abbrev pub howMany : ℕ → (ℕ → Bool) → ℕ
+howMany n p = sumTo n (λ c. pick (p c) 1 0)
 
-abbrev pub runEnd : List ℕ → List ℕ → List ℕ → ℕ → ℕ → ℕ
-runEnd s first last k d = d + runSize s first last k
-
--- element i of a list of n cells, and the number of cells past the last
-unfoldable pub startAt : List ℕ → List ℕ → ℕ → ℕ → ℕ
-startAt s starts n i = pick (ltb i n) (getD starts i 0) (cellsOf s)
-
--- the first n elements of the list are where the runs start, ascending, each of that size: every cell in the ranges lies in one of them
+-- the runs of that size that start at the first n elements of the list, in any order: every cell in the ranges lies in one of them, and they
+-- have as many cells as there are in the ranges
 pub record RunsOf (s first last starts : List ℕ) (n size : ℕ) : Type 0 where
-  pub most : n ≤ cellsOf s
-  pub start : Sought s first last 0 (startAt s starts n 0)
-  pub run : (i : ℕ) → i < n → RunTo s first last (startAt s starts n i) (startAt s starts n i + size)
-  pub next : (i : ℕ) → i < n → Sought s first last (startAt s starts n i + size) (startAt s starts n (i + 1))
-
--- the first `size` elements of a repeated, one weight w later every time
-unfoldable pub repeated : List ℕ → ℕ → ℕ → ℕ → ℕ
-repeated a size w i = getD a (i % size) 0 + i / size * w
-
--- the first n values of f are below the greatest number of cells
-abbrev pub Small : ℕ → (ℕ → ℕ) → Type 0
-Small n f = (i : ℕ) → i < n → f i < maxCells
+  pub most : n ≤ maxCells
+  pub fits : (i : ℕ) → i < n → getD starts i 0 + size ≤ cellsOf s
+  pub all : (c : ℕ) → c < cellsOf s → inRanges s first last c ≡ true → InRun starts n size c
+  pub number : n * size ≡ howMany (cellsOf s) (inRanges s first last)

@@ -1,4 +1,4 @@
 // The cells that meet an image, as runs of consecutive cells.
 pub mod ranges;
-mod seek;
+pub mod seek;
 pub mod starts;

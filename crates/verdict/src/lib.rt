@@ -21,7 +21,6 @@ use certificate::Report;
 use certificate::limits;
 use entry_records::entries;
 use entry_search::search;
-use entry_setup::LinkTables;
 use entry_setup::amounts;
 use entry_setup::entry;
 use rank_tables::index;
@@ -53,7 +52,9 @@ pub fn refused(report: Report) -> Verdict
 fn judge_entry(
     s: &[u8],
     layout: Layout,
-    tables: LinkTables,
+    counts: &[usize; limits::MAX_LINKS],
+    caps: &[usize; limits::MAX_LINKS],
+    first_turns: &[usize; limits::MAX_LINKS + 1],
     ranks: &[u32; ranks::RANKS],
     digits: &[u8; cells::DIGITS],
     edges: &[usize; tables::EDGES],
@@ -62,16 +63,17 @@ fn judge_entry(
     e: usize,
     count: u32,
 ) -> search::Searched
-    requires { ⌜ LaidOut (now s) layout × TablesOf (now s) tables (now edges) (now arrivals) × RanksOf (now s) (now ranks) × (e < entriesOf (now s)) × (count ≤ maxBoxes * maxCells * e) × DigitsOf (now s) (now digits) × (length (now runs) ≡ maxCells) ⌝ }
+    requires { ⌜ LaidOut (now s) layout × TablesOf (now s) (layout .links) (now counts) (now caps) (now edges) (now arrivals) × FirstTurns (now s) (now «first_turns») × RanksOf (now s) (now ranks) × (e < entriesOf (now s)) × (count ≤ maxBoxes * maxCells * e) × DigitsOf (now s) (now digits) × (length (now runs) ≡ maxCells) ⌝ }
     ensures { λ r. ⌜ (r .report ≡ entryAlone (now (s .entry)) e count) × (r .report .count ≤ maxBoxes * maxCells * (e + 1)) × (length (now (runs .exit)) ≡ maxCells) × (r .report .number ≡ 0 → r .over ≡ entryOverflows (now (s .entry)) e) ⌝ }
 {
+    let links = layout.links;
     let task = entry::task_of(s, layout, e);
     let c = entries::cell_of(s, layout.entries_start, e);
-    let cell = entry::cell_edges(s, digits, edges, tables.links, c);
-    let lower = cell.lower;
-    let upper = cell.upper;
+    let mut lower = [0usize; limits::MAX_LINKS];
+    let mut upper = [0usize; limits::MAX_LINKS];
+    entry::cell_edges(s, digits, edges, links, c, &mut lower, &mut upper);
     let at = entry_standing::Where {
-        links: layout.links,
+        links,
         modes_start: layout.modes_start,
         mode_size: layout.mode_size,
         entries_start: layout.entries_start,
@@ -83,8 +85,32 @@ fn judge_entry(
             over: false,
         };
     }
-    let before = entry::entry_ends(s, layout, &tables.first_turns, e, &lower, &upper);
-    search::search_boxes(s, task, tables, ranks, edges, arrivals, runs, before, count)
+    let mut low = [0usize; limits::MAX_LINKS];
+    let mut high = [0usize; limits::MAX_LINKS];
+    entry::entry_ends(
+        s,
+        layout,
+        first_turns,
+        e,
+        &lower,
+        &upper,
+        &mut low,
+        &mut high,
+    );
+    search::search_boxes(
+        s,
+        task,
+        links,
+        caps,
+        counts,
+        ranks,
+        edges,
+        arrivals,
+        runs,
+        &low,
+        &high,
+        count,
+    )
 }
 
 // 1 for an entry that may turn arrivals away, else 0.
@@ -101,14 +127,16 @@ fn counted(over: bool) -> u32
 fn judge_entries(
     s: &[u8],
     layout: Layout,
-    tables: LinkTables,
+    counts: &[usize; limits::MAX_LINKS],
+    caps: &[usize; limits::MAX_LINKS],
+    first_turns: &[usize; limits::MAX_LINKS + 1],
     ranks: &[u32; ranks::RANKS],
     digits: &[u8; cells::DIGITS],
     edges: &[usize; tables::EDGES],
     arrivals: &[usize; amounts::ARRIVALS],
     runs: &mut [u16],
 ) -> Verdict
-    requires { ⌜ LaidOut (now s) layout × TablesOf (now s) tables (now edges) (now arrivals) × RanksOf (now s) (now ranks) × DigitsOf (now s) (now digits) × (length (now runs) ≡ maxCells) ⌝ }
+    requires { ⌜ LaidOut (now s) layout × TablesOf (now s) (layout .links) (now counts) (now caps) (now edges) (now arrivals) × FirstTurns (now s) (now «first_turns») × RanksOf (now s) (now ranks) × DigitsOf (now s) (now digits) × (length (now runs) ≡ maxCells) ⌝ }
     ensures { λ r. ⌜ JudgedAs (now (s .entry)) (judgingFrom (now (s .entry)) 0 0) r ⌝ }
 {
     let entries = layout.entries;
@@ -118,7 +146,9 @@ fn judge_entries(
         let r = judge_entry(
             s,
             layout,
-            tables,
+            counts,
+            caps,
+            first_turns,
             ranks,
             digits,
             edges,
@@ -136,26 +166,6 @@ fn judge_entries(
     }
     let report = octets::report(0, 0, 0, count);
     Verdict { report, overflows }
-}
-
-// The tables of the links.
-fn link_tables(s: &[u8], layout: Layout) -> LinkTables
-    requires { ⌜ Readable (now s) × LaidOut (now s) layout ⌝ }
-    ensures { λ r. ⌜ GridOf (now (s .entry)) (r .counts) (r .weights) (r .links) × CapsOf (now (s .entry)) (r .caps) × FirstTurns (now (s .entry)) (r .«first_turns») ⌝ }
-{
-    let links = layout.links;
-    let places = layout.grids;
-    let counts = tables::counts_of(s, &places, links);
-    let weights = tables::weights_of(s, &counts, links, layout.cells);
-    let caps = amounts::caps_of(s, links);
-    let first_turns = supply::first_turns(s, layout.turns_start, layout.turns);
-    LinkTables {
-        links,
-        counts,
-        weights,
-        caps,
-        first_turns,
-    }
 }
 
 // Fills the table of ranks, by way of the index.
@@ -176,11 +186,11 @@ fn judge_screened(s: &[u8], layout: Layout) -> Verdict
 {
     let links = layout.links;
     let places = layout.grids;
-    let tables = link_tables(s, layout);
-    let counts = tables.counts;
-    let weights = tables.weights;
+    let counts = tables::counts_of(s, &places, links);
+    let caps = amounts::caps_of(s, links);
+    let first_turns = supply::first_turns(s, layout.turns_start, layout.turns);
     let mut digits = [0u8; cells::DIGITS];
-    cells::fill_digits(s, &counts, &weights, links, layout.cells, &mut digits);
+    cells::fill_digits(s, &counts, links, layout.cells, &mut digits);
     let edges = tables::edges_of(s, &places, links);
     let arrivals = amounts::arrivals_of(s, layout.arrivals_start, links, layout.boxes);
     let mut ranks = [0u32; ranks::RANKS];
@@ -189,7 +199,9 @@ fn judge_screened(s: &[u8], layout: Layout) -> Verdict
     judge_entries(
         s,
         layout,
-        tables,
+        &counts,
+        &caps,
+        &first_turns,
         &ranks,
         &digits,
         &edges,

@@ -14,26 +14,26 @@ use Rattle.verdict.proofs.judge_entries.Statement.{statement}
 use Rattle.verdict.proofs.judge_entries.Tie as tie
 
 abbrev Inv-loop : tie.InvT-loop
-Inv-loop s layout tables ranks digits edges arrivals starts₀ entries count₀ overflows₀ e₀ starts count overflows e =
-    (judgingFrom s e count ≡ judgingFrom s 0 0) × (count ≤ 32768 * e) × (entries ≡ entriesOf s) × (entries ≤ 4096) × (length starts ≡ 4096)
+Inv-loop s layout counts caps turns ranks digits edges arrivals runs₀ entries count₀ overflows₀ e₀ runs count overflows e =
+    (judgingFrom s e count ≡ judgingFrom s 0 0) × (count ≤ 32768 * e) × (entries ≡ entriesOf s) × (entries ≤ 4096) × (length runs ≡ 4096)
     × (overflows ≡ overflowsBefore s e) × (e ≤ entries)
 
 abbrev μ-loop : tie.MeasureT-loop
-μ-loop s layout tables ranks digits edges arrivals starts₀ entries count₀ overflows₀ e₀ starts count overflows e = entries - e
+μ-loop s layout counts caps turns ranks digits edges arrivals runs₀ entries count₀ overflows₀ e₀ runs count overflows e = entries - e
 
 loop-holds : tie.Need-loop-holds Inv-loop μ-loop
-loop-holds c = (refl, omega arith, c .before .before .pre .0 .entries-are, c .before .before .pre .0 .entries-most, c .before .before .pre .4, none-before _, omega arith)
+loop-holds c = (refl, omega arith, c .before .before .pre .0 .entries-are, c .before .before .pre .0 .entries-most, c .before .before .pre .5, none-before _, omega arith)
 
 judge-entry-requires : tie.Need-judge-entry-requires Inv-loop μ-loop
 judge-entry-requires c κs = let w = c .before .before .loop .inv in
     let p = c .before .before .before .before .before .pre in
-    (p .0, p .1, p .2, omega (arith, c .before .loop-test .taken, w .2), w .1, p .3, w .4)
+    (p .0, p .1, p .2, p .3, omega (arith, c .before .loop-test .taken, w .2), w .1, p .4, w .4)
 
 refused-requires : tie.Need-refused-requires Inv-loop μ-loop
 refused-requires c κs = search needs
 
 same-length : tie.Need-same-length Inv-loop μ-loop
-same-length c = omega (arith, c .before .before .before .before .before .before .judge-entry .ensures .2, c .before .before .before .before .before .before .before .before .before .before .before .before .pre .4)
+same-length c = omega (arith, c .before .before .before .before .before .before .judge-entry .ensures .2, c .before .before .before .before .before .before .before .before .before .before .before .before .pre .5)
 
 returns : tie.Need-returns Inv-loop μ-loop
 returns c =
@@ -81,7 +81,7 @@ report-requires : tie.Need-report-requires Inv-loop μ-loop
 report-requires c κs = search needs
 
 same-length-2 : tie.Need-same-length-2 Inv-loop μ-loop
-same-length-2 c = omega (arith, c .before .before .loop .inv .4, c .before .before .before .before .before .pre .4)
+same-length-2 c = omega (arith, c .before .before .loop .inv .4, c .before .before .before .before .before .pre .5)
 
 returns-2 : tie.Need-returns-2 Inv-loop μ-loop
 returns-2 c =

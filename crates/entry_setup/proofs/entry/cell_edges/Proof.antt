@@ -18,7 +18,7 @@ abbrev μ-loop : tie.MeasureT-loop
 μ-loop s digits edges links cell lower₀ upper₀ l₀ lower upper l = links - l
 
 loop-holds : tie.Need-loop-holds Inv-loop μ-loop
-loop-holds c = ((refl, below-none _), (refl, below-none _), omega arith, omega (arith, c .before .pre .3, c .before .pre .0 .header .links-most))
+loop-holds c = ((c .before .pre .5, below-none _), (c .before .pre .6, below-none _), omega arith, omega (arith, c .before .pre .3, c .before .pre .0 .header .links-most))
 
 interval-in-requires : tie.Need-interval-in-requires Inv-loop μ-loop
 interval-in-requires c κs = let w = c .before in
@@ -40,8 +40,8 @@ element-copy-out-lower c = omega arith
 mul-lower-3 : tie.Need-mul-lower-3 Inv-loop μ-loop
 mul-lower-3 c = omega arith
 
-array-write-lower : tie.Need-array-write-lower Inv-loop μ-loop
-array-write-lower c = omega arith
+element-write-lower : tie.Need-element-write-lower Inv-loop μ-loop
+element-write-lower c = omega arith
 
 mul-upper : tie.Need-mul-upper Inv-loop μ-loop
 mul-upper c = omega arith
@@ -61,8 +61,8 @@ element-copy-out-upper c = omega arith
 mul-upper-3 : tie.Need-mul-upper-3 Inv-loop μ-loop
 mul-upper-3 c = omega arith
 
-array-write-upper : tie.Need-array-write-upper Inv-loop μ-loop
-array-write-upper c = omega arith
+element-write-upper : tie.Need-element-write-upper Inv-loop μ-loop
+element-write-upper c = omega arith
 
 add-l : tie.Need-add-l Inv-loop μ-loop
 add-l c = omega arith
@@ -104,14 +104,14 @@ cell-edges-spec =
     mul-lower-2
     element-copy-out-lower
     mul-lower-3
-    array-write-lower
+    element-write-lower
     mul-upper
     add-upper
     add-upper-2
     mul-upper-2
     element-copy-out-upper
     mul-upper-3
-    array-write-upper
+    element-write-upper
     add-l
     loop-less
     loop-again

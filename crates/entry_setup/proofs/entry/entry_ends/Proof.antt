@@ -8,10 +8,10 @@ entry-limits-requires : tie.Need-entry-limits-requires
 entry-limits-requires c κs = search needs
 
 ends-of-requires : tie.Need-ends-of-requires
-ends-of-requires c κs = let a = c .before .before .before in
+ends-of-requires c κs = let a = c .before .before .before .before .before in
     let R = a .pre .0 .readable in
     let W = edges-within _ R _ _ _ (a .pre .4) in
-    (layout-network _ _ R (a .pre .1), a .pre .2, W .0, W .1, limits-fit _ _ (a .pre .0) _ (a .pre .3) (c .before .entry-limits .ensures))
+    (layout-network _ _ R (a .pre .1), a .pre .2, W .0, W .1, limits-fit _ _ (a .pre .0) _ (a .pre .3) (c .before .before .before .entry-limits .ensures), a .pre .5, a .pre .6)
 
 returns : tie.Need-returns
 returns c = search ends-are

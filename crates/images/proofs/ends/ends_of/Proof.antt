@@ -14,18 +14,18 @@ use Rattle.images.proofs.ends.ends_of.Statement.{statement}
 use Rattle.images.proofs.ends.ends_of.Tie as tie
 
 abbrev Inv-loop : tie.InvT-loop
-Inv-loop s start links limits first lower upper lows₀ highs₀ low₀ high₀ l₀ lows highs low high l =
+Inv-loop s start links limits first lower upper low₀ high₀ lows₀ highs₀ l₀ low high lows highs l =
     (l ≤ links) × EndsSoFar s (at limits) (at lower) (at upper) first l low × EndsSoFar s (at limits) (at upper) (at lower) first l high
     × (length lows ≡ 32) × (length highs ≡ 32)
 
 abbrev μ-loop : tie.MeasureT-loop
-μ-loop s start links limits first lower upper lows₀ highs₀ low₀ high₀ l₀ lows highs low high l = links - l
+μ-loop s start links limits first lower upper low₀ high₀ lows₀ highs₀ l₀ low high lows highs l = links - l
 
 scale-requires : tie.Need-scale-requires Inv-loop μ-loop
-scale-requires c κs = let start = c .before .before in (links-most (start .pre .0), λ l h. queue-most (start .pre .0 .readable) (start .pre .2) l (omega arith), refl)
+scale-requires c κs = let start = c .before .before in (links-most (start .pre .0), λ l h. queue-most (start .pre .0 .readable) (start .pre .2) l (omega arith), start .pre .5)
 
 scale-requires-2 : tie.Need-scale-requires-2 Inv-loop μ-loop
-scale-requires-2 c κs = let start = c .before .before .before .before in (links-most (start .pre .0), λ l h. queue-most (start .pre .0 .readable) (start .pre .3) l (omega arith), refl)
+scale-requires-2 c κs = let start = c .before .before .before .before in (links-most (start .pre .0), λ l h. queue-most (start .pre .0 .readable) (start .pre .3) l (omega arith), start .pre .6)
 
 loop-holds : tie.Need-loop-holds Inv-loop μ-loop
 loop-holds c =
