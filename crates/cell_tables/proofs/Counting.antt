@@ -3,35 +3,34 @@ use Prim.Native.Nat.{ℕ, zero, suc, _+_, _*_, _-_, _/_, _%_, _≤_, _<_}
 use mathlib.Core.List.{List}
 use mathlib.Core.Bool.{Bool, true, false}
 use mathlib.Core.Logic.{⊎-elim}
-use mathlib.Core.Path.{_≡_, refl, sym, _∙_}
-use native.Mathlib.Nat.{div-add-mod', mod-lt, mul-add-div-right, mul-add-mod-self-right, mod-eq-of-lt, div-eq-of-lt, add-mul, one-mul, zero-div, eq-or-lt-of-le}
+use mathlib.Core.Path.{_≡_, refl, sym, ap, _∙_}
+use native.Mathlib.Nat.{div-add-mod', mod-lt, mod-eq-of-lt, add-mul, one-mul, zero-div, eq-or-lt-of-le}
 use native.Mathlib.Decide.{le-ind}
 use native.Mathlib.Omega.{arith}
 use borrow.Author.Tests.{ltb-true, ltb-false}
 use lib.Dec.{ltb}
 use lib.ListN.{length, getD, set, replicate, length-set, getD-replicate}
 use lib.Seq.{getD-set-same, getD-set-other}
-use Rattle.certificate.specs.Layout.{maxLinks, linksOf, intervalsOf}
+use Rattle.certificate.specs.Layout.{maxIntervals, maxLinks, linksOf, intervalsOf}
 use Rattle.certificate.specs.Facts.{Readable}
 use Rattle.grid.specs.Cells.{prefixOf, intervalIn}
+use Rattle.grid.proofs.Numbers.{split-number}
 use Rattle.octets.specs.Tables.{Holds}
-
--- the quotient and the remainder of a sum of rounds of n and a rest
-over-rounds : (x m r n : ℕ) → r < n → x ≡ m * n + r → (x / n ≡ m) × (x % n ≡ r)
-over-rounds x m r n lt e =
-    let q : (m * n + r) / n ≡ m + r / n = mul-add-div-right (omega arith) m r in
-    let z : r / n ≡ 0 = div-eq-of-lt lt in
-    rw e (omega arith, mul-add-mod-self-right m n r ∙ mod-eq-of-lt lt)
 
 -- one more, within a round
 one-more : (q n : ℕ) → q % n + 1 < n → ((q + 1) / n ≡ q / n) × ((q + 1) % n ≡ q % n + 1)
-one-more q n lt = over-rounds (q + 1) (q / n) (q % n + 1) n lt (omega (arith, div-add-mod' q n))
+one-more q n lt =
+    let e : q + 1 ≡ q / n * n + (q % n + 1) = omega (arith, div-add-mod' q n) in
+    let x = split-number (q / n) n (q % n + 1) lt in
+    (ap (λ (m : ℕ). m / n) e ∙ x .0, ap (λ (m : ℕ). m % n) e ∙ x .1)
 
 -- one more, at the end of a round
 round-over : (q n : ℕ) → 0 < n → n ≤ q % n + 1 → ((q + 1) / n ≡ q / n + 1) × ((q + 1) % n ≡ 0)
 round-over q n some le =
     let below : q % n < n = mod-lt q some in
-    over-rounds (q + 1) (q / n + 1) 0 n some (omega (arith, div-add-mod' q n, add-mul (q / n) 1 n, one-mul n))
+    let e : q + 1 ≡ (q / n + 1) * n + 0 = omega (arith, div-add-mod' q n, add-mul (q / n) 1 n, one-mul n) in
+    let x = split-number (q / n + 1) n 0 some in
+    (ap (λ (m : ℕ). m / n) e ∙ x .0, ap (λ (m : ℕ). m % n) e ∙ x .1)
 
 -- cells that agree on what is left at the last j links agree on what is left at more
 prefix-later : (s : List ℕ) (c d j m : ℕ) → prefixOf s c j ≡ prefixOf s d j → j ≤ m → prefixOf s c m ≡ prefixOf s d m
@@ -125,7 +124,7 @@ module _ (s : List ℕ) (R : Readable s) (c : ℕ) where
     here = h .to-do l (omega arith)
 
     -- which is a small number
-    pub interval-small : getD a l 0 < 15
+    pub interval-small : getD a l 0 < maxIntervals
     interval-small =
         let G = R .grid l exists in
         omega (arith, here, mod-lt (prefixOf s c (linksOf s - suc l)) (G .count-least), G .count-most)

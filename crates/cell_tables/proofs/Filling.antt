@@ -8,7 +8,7 @@ use native.Mathlib.Numerals.{add-one}
 use native.Mathlib.Omega.{arith}
 use lib.ListN.{length, getD, set, length-set}
 use lib.Seq.{getD-set-same, getD-set-other}
-use Rattle.certificate.specs.Layout.{maxLinks, maxCells, linksOf, capOf, gridAt, countAt, cutAt, intervalsOf, cellsOf}
+use Rattle.certificate.specs.Layout.{maxIntervals, maxLinks, maxCells, linksOf, capOf, gridAt, countAt, cutAt, intervalsOf, cellsOf}
 use Rattle.certificate.specs.Records.{cutBefore}
 use Rattle.certificate.specs.Facts.{Readable}
 use Rattle.certificate.proofs.Offsets.{starts, grid-end}
@@ -18,6 +18,7 @@ use Rattle.grid.specs.Cells.{intervalIn}
 use Rattle.octets.specs.Tables.{Holds}
 use Rattle.cell_tables.specs.Tables.{edgeOf, EdgesOf, DigitsOf}
 use Rattle.grid.proofs.Edges.{upper-inner, upper-last}
+use Rattle.grid.proofs.Numbers.{is-choice}
 
 -- a grid record starts within a certificate
 pub grid-place : (s : List ℕ) → Readable s → (l : ℕ) → l < linksOf s → gridAt s l ≤ 100000
@@ -63,10 +64,10 @@ pub edges-filled : (s : List ℕ) → Readable s → (a : List ℕ) (n : ℕ) �
 edges-filled s R a n e h =
     record {
       lower = λ l i lt b.
-          let m : intervalsOf s l ≤ 15 = R .grid l lt .count-most in
+          let m : intervalsOf s l ≤ maxIntervals = R .grid l lt .count-most in
           h (16 * l + i) (omega arith) ∙ entry-is s l i (omega arith) ∙ edge-lower s l i b;
       upper = λ l i lt b.
-          let m : intervalsOf s l ≤ 15 = R .grid l lt .count-most in
+          let m : intervalsOf s l ≤ maxIntervals = R .grid l lt .count-most in
           let same : 16 * l + i + 1 ≡ 16 * l + (i + 1) = omega arith in
           rw same (h (16 * l + (i + 1)) (omega arith) ∙ entry-is s l (i + 1) (omega arith) ∙ edge-upper s l i);
     }
@@ -98,3 +99,15 @@ module _ (s : List ℕ) (R : Readable s) (a : List ℕ) where
   -- and so are those of all cells
   pub digits-filled : (c : ℕ) → cellsOf s ≤ c → FilledTo s (8 * c) a → DigitsOf s a
   digits-filled c le h d k below under = h .1 d k under (omega (arith, R .header .links-most))
+
+-- an interval that is read from the table of cells exists, and stands within the tables
+pub interval-exists : (s : List ℕ) → Readable s → (digits : List ℕ) → DigitsOf s digits → (c l : ℕ) → c < cellsOf s → l < linksOf s
+    → (getD digits (8 * c + l) 0 ≡ intervalIn s c l) × (getD digits (8 * c + l) 0 < intervalsOf s l) × (getD digits (8 * c + l) 0 < maxIntervals)
+interval-exists s R digits D c l hc hl =
+    let i = D c l hc hl in
+    let h = is-choice s R c l hl in
+    let most : intervalsOf s l ≤ maxIntervals = R .grid l hl .count-most in
+    (i, rw i h, omega (arith, i, h, most))
+
+pub table-place : (s : List ℕ) → Readable s → (c l : ℕ) → c < cellsOf s → l < linksOf s → (c < 4096) × (l < 8)
+table-place s R c l hc hl = (omega (arith, cells-in-range s R .1), omega (arith, R .header .links-most))

@@ -1,8 +1,9 @@
 // The interval of each link in each cell, eight a cell, counted up from one cell to the next: the last link counts fastest.
 ghost use mathlib.Core.Path.{_≡_};
-ghost use Prim.Native.Nat.{_+_, _*_};
+ghost use Prim.Native.Nat.{_+_, _*_, _<_};
 ghost use lib.ListN.{length};
-ghost use Rattle.certificate.specs.Layout.{maxLinks, maxCells, linksOf, cellsOf};
+ghost use Rattle.certificate.specs.Layout.{maxIntervals, maxLinks, maxCells, linksOf, intervalsOf, cellsOf};
+ghost use Rattle.certificate.specs.Facts.{Readable};
 ghost use Rattle.grid.specs.Cells.{intervalIn};
 ghost use Rattle.octets.specs.Tables.{Holds};
 ghost use Rattle.cell_tables.specs.Tables.{GridOf, DigitsOf};
@@ -54,4 +55,12 @@ pub fn fill_digits(
         }
         count_up(s, counts, links, c, &mut intervals);
     }
+}
+
+// The interval of link l in a cell, from the table.
+pub fn interval_in(s: &[u8], digits: &[u8; DIGITS], cell: usize, l: usize) -> usize
+    requires { ⌜ Readable (now s) × DigitsOf (now s) (now digits) × (cell < cellsOf (now s)) × (l < linksOf (now s)) ⌝ }
+    ensures { λ r. ⌜ (r ≡ intervalIn (now (s .entry)) cell l) × (r < intervalsOf (now (s .entry)) l) × (r < maxIntervals) ⌝ }
+{
+    numbers::wide(digits[limits::MAX_LINKS * cell + l])
 }

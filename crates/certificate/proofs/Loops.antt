@@ -155,7 +155,7 @@ unfolding sumTo
 sum-none zero f h = refl
 sum-none (suc n) f h = rw (sum-none n f (λ t lt. h t (omega arith)), h n (omega arith))
 
--- a sum whose every term is short by at most a weight times d is short by at most the sum of the weights times d
+-- a sum whose every term is short by at most a factor times d is short by at most the sum of the factors times d
 pub sum-slack : (n : ℕ) (f g w : ℕ → ℕ) (d : ℕ) → ((t : ℕ) → t < n → f t ≤ g t + w t * d) → sumTo n f ≤ sumTo n g + sumTo n w * d
 unfolding sumTo
 sum-slack zero f g w d h = omega arith

@@ -3,7 +3,7 @@ ghost use mathlib.Core.Path.{_≡_};
 ghost use Prim.Native.Nat.{ℕ, _+_, _*_, _<_, _≤_};
 ghost use lib.ListN.{length, getD};
 ghost use Rattle.certificate.specs.Facts.{Readable};
-ghost use Rattle.cell_tables.specs.Tables.{CountsOf};
+ghost use Rattle.cell_tables.specs.Tables.{CountsOf, DigitsOf};
 ghost use Rattle.rank_tables.specs.Index.{RanksOf};
 ghost use Rattle.judging.specs.EntryTests.{follows, successorFault};
 ghost use Rattle.judging.specs.Overflow.{entryOverflows};
@@ -12,6 +12,7 @@ ghost use Rattle.certificate.specs.Loops.{pick};
 ghost use Rattle.entry_search.specs.Search.{AtCell, BoxRanges, Passed, RunsFit, AllPassed, boxesFrom, passes};
 ghost use Rattle.certificate.specs.Layout.{maxBoxes, maxCells, linksOf};
 use crate::boxes;
+use cell_tables::digits as cells;
 use cell_tables::tables as edges_table;
 use certificate::Report;
 use certificate::limits;
@@ -160,17 +161,17 @@ fn look<'a>(
     s: &[u8],
     task: Task,
     ranks: &[u32; rank_table::RANKS],
-    counts: &[usize; limits::MAX_LINKS],
+    digits: &[u8; cells::DIGITS],
     first: &'a [usize; limits::MAX_LINKS],
     last: &'a [usize; limits::MAX_LINKS],
     links: usize,
     b: usize,
     d: usize,
 ) -> Looked
-    requires { ⌜ IsTask (now s) task × RanksOf (now s) (now ranks) × Readable (now s) × CountsOf (now s) (now counts) × (links ≡ linksOf (now s)) × BoxRanges (now s) (task .entry) b (now first) (now last) × (d < task .cells) ⌝ }
+    requires { ⌜ IsTask (now s) task × RanksOf (now s) (now ranks) × Readable (now s) × DigitsOf (now s) (now digits) × (links ≡ linksOf (now s)) × BoxRanges (now s) (task .entry) b (now first) (now last) × (d < task .cells) ⌝ }
     ensures { λ r. ⌜ (r .number ≡ pick (follows (now (s .entry)) (task .entry) b d) (successorFault (now (s .entry)) (task .entry) d 0 .number) 0) × (r .looked ≡ pick (follows (now (s .entry)) (task .entry) b d) 1 0) ⌝ }
 {
-    if !seek::in_ranges(s, counts, first, last, links, d) {
+    if !seek::in_ranges(s, digits, first, last, links, d) {
         return Looked {
             number: 0,
             looked: 0,
@@ -232,6 +233,7 @@ pub fn search_boxes(
     caps: &[usize; limits::MAX_LINKS],
     counts: &[usize; limits::MAX_LINKS],
     ranks: &[u32; rank_table::RANKS],
+    digits: &[u8; cells::DIGITS],
     edges: &[usize; edges_table::EDGES],
     arrivals: &[usize; amounts::ARRIVALS],
     runs: &mut [u16],
@@ -239,7 +241,7 @@ pub fn search_boxes(
     high: &[usize; limits::MAX_LINKS],
     count: u32,
 ) -> Searched
-    requires { ⌜ TablesOf (now s) links (now counts) (now caps) (now edges) (now arrivals) × RanksOf (now s) (now ranks) × IsTask (now s) task × EntryEnds (now s) (task .entry) (now low) (now high) × (count ≤ maxBoxes * maxCells * task .entry) × (length (now runs) ≡ maxCells) ⌝ }
+    requires { ⌜ TablesOf (now s) links (now counts) (now caps) (now edges) (now arrivals) × RanksOf (now s) (now ranks) × DigitsOf (now s) (now digits) × IsTask (now s) task × EntryEnds (now s) (task .entry) (now low) (now high) × (count ≤ maxBoxes * maxCells * task .entry) × (length (now runs) ≡ maxCells) ⌝ }
     ensures { λ r. ⌜ (r .report ≡ boxesFrom (now (s .entry)) (task .entry) 0 count) × (r .report .count ≤ maxBoxes * maxCells * (task .entry + 1)) × (length (now (runs .exit)) ≡ maxCells) × (r .report .number ≡ 0 → r .over ≡ entryOverflows (now (s .entry)) (task .entry)) ⌝ }
 {
     let mut found = octets::accept();
@@ -267,7 +269,7 @@ pub fn search_boxes(
         total += start.looked;
         let mut d = start.cell;
         while d < task.cells {
-            let r = look(s, task, ranks, counts, &first, &last, links, b, d);
+            let r = look(s, task, ranks, digits, &first, &last, links, b, d);
             total += r.looked;
             if r.number != 0 {
                 found = octets::report(r.number, task.entry, d, 0);

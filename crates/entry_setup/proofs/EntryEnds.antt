@@ -1,19 +1,17 @@
 -- The edges of an entry's cell, its limits, and the ends of its image before arrivals. Assumes nothing.
-use Prim.Native.Nat.{ℕ, _+_, _*_, _≤_, _<_}
+use Prim.Native.Nat.{ℕ, _<_}
 use mathlib.Core.List.{List}
 use mathlib.Core.Bool.{Bool, true, not}
 use mathlib.Core.Path.{_≡_, refl, sym, _∙_}
 use native.Mathlib.Omega.{arith}
-use lib.ListN.{getD}
 use Rattle.reading.specs.declared.Layout.{Layout}
 use Rattle.certificate.specs.Facts.{Readable}
 use Rattle.reading.specs.ReadingResults.{LaidOut}
 use Rattle.certificate.proofs.Loops.{sum-same}
-use Rattle.certificate.proofs.Size.{cells-in-range}
-use Rattle.certificate.specs.Layout.{linksOf, turnsOf, intervalsOf, cellsOf, remembers, greenByteOf, shownBefore, entriesOf, cellOf, modeOf, signalOf}
+use Rattle.certificate.specs.Layout.{linksOf, turnsOf, remembers, greenByteOf, shownBefore, entriesOf, cellOf, modeOf, signalOf}
 use Rattle.network.specs.Network.{Network, networkOf, entryLimit}
 use Rattle.network.specs.Flow.{sent, passedIn, gross}
-use Rattle.network.specs.Image.{beside, lowCorner, highCorner}
+use Rattle.network.specs.Image.{lowCorner, highCorner}
 use Rattle.network.specs.Sound.{Joined}
 use Rattle.network.specs.Laws.{Screened}
 use Rattle.screening.specs.NetworkParts.{NetworkAt}
@@ -23,11 +21,9 @@ use Rattle.images.specs.Ends.{LimitsFit, EndsBefore}
 use Rattle.network.proofs.Limiting.{plain-limits}
 use Rattle.network.proofs.Screening.{joins-of, entry-sound}
 use Rattle.grid.specs.Cells.{intervalIn}
-use Rattle.grid.proofs.Numbers.{is-choice}
 use Rattle.grid.proofs.Edges.{upper-most, cell-lower-below-upper}
 use Rattle.octets.specs.Tables.{Holds}
 use Rattle.octets.proofs.Cases.{not-yes}
-use Rattle.cell_tables.specs.Tables.{DigitsOf}
 use Rattle.entry_setup.specs.Tables.{CellEdges, limitBy, EntryLimits, EntryEnds}
 
 -- what a link sends, and so the next queue of a link, depends on the limits and the queues of the network's links alone
@@ -87,18 +83,6 @@ ends-are s R e limits lower upper low high C L B =
       low-most = B .low-most;
       high-most = B .high-most;
     }
-
--- an interval that is read from the table of cells exists, and stands within the tables
-pub interval-exists : (s : List ℕ) → Readable s → (digits : List ℕ) → DigitsOf s digits → (c l : ℕ) → c < cellsOf s → l < linksOf s
-    → (getD digits (8 * c + l) 0 ≡ intervalIn s c l) × (getD digits (8 * c + l) 0 < intervalsOf s l) × (getD digits (8 * c + l) 0 < 15)
-interval-exists s R digits D c l hc hl =
-    let i = D c l hc hl in
-    let h = is-choice s R c l hl in
-    let most : intervalsOf s l ≤ 15 = R .grid l hl .count-most in
-    (i, rw i h, omega (arith, i, h, most))
-
-pub table-place : (s : List ℕ) → Readable s → (c l : ℕ) → c < cellsOf s → l < linksOf s → (c < 4096) × (l < 8)
-table-place s R c l hc hl = (omega (arith, cells-in-range s R .1), omega (arith, R .header .links-most))
 
 -- the edges of a cell are at most cap
 pub edges-within : (s : List ℕ) → Readable s → (c : ℕ) (lower upper : List ℕ) → CellEdges s c lower upper → WithinCaps s lower × WithinCaps s upper

@@ -3,8 +3,7 @@ ghost use mathlib.Core.Path.{_≡_};
 ghost use Prim.Native.Nat.{ℕ, _+_, _<_, _≤_};
 ghost use lib.ListN.{length};
 ghost use Rattle.certificate.specs.Facts.{Readable};
-ghost use Rattle.certificate.specs.Layout.{maxLinks, linkAt, linkSize, linksOf, greenByteOf, intervalsOf, cellsOf, cellOf, signalOf, entriesOf};
-ghost use Rattle.grid.specs.Cells.{intervalIn};
+ghost use Rattle.certificate.specs.Layout.{maxLinks, linkAt, linkSize, linksOf, greenByteOf, cellsOf, cellOf, signalOf, entriesOf};
 ghost use Rattle.reading.specs.ReadingResults.{LaidOut};
 ghost use Rattle.network.specs.Laws.{Screened};
 ghost use Rattle.octets.specs.Tables.{Holds};
@@ -19,7 +18,6 @@ use certificate::limits;
 use entry_records::entries;
 use images::ends;
 use mode_records::modes;
-use octets::numbers;
 use reading::Layout;
 use road_records::links;
 use signal_records::signals;
@@ -56,14 +54,6 @@ pub fn task_of(s: &[u8], layout: Layout, e: usize) -> Task
     }
 }
 
-// The interval of link l in a cell.
-fn interval_in(s: &[u8], digits: &[u8; digits::DIGITS], cell: usize, l: usize) -> usize
-    requires { ⌜ Readable (now s) × DigitsOf (now s) (now digits) × (cell < cellsOf (now s)) × (l < linksOf (now s)) ⌝ }
-    ensures { λ r. ⌜ (r ≡ intervalIn (now (s .entry)) cell l) × (r < intervalsOf (now (s .entry)) l) × (r < 15) ⌝ }
-{
-    numbers::wide(digits[limits::MAX_LINKS * cell + l])
-}
-
 // The edges of a cell: `lower` and `upper` receive them.
 pub fn cell_edges(
     s: &[u8],
@@ -78,7 +68,7 @@ pub fn cell_edges(
     ensures { λ _. ⌜ CellEdges (now (s .entry)) cell (now (lower .exit)) (now (upper .exit)) ⌝ }
 {
     for l in 0..links {
-        let i = interval_in(s, digits, cell, l);
+        let i = digits::interval_in(s, digits, cell, l);
         lower[l] = edges[tables::EDGE_ROW * l + i];
         upper[l] = edges[tables::EDGE_ROW * l + i + 1];
     }

@@ -19,17 +19,20 @@ unfolding numberOf
 number-same s i j zero h = refl
 number-same s i j (suc l) h = rw (number-same s i j l (λ k lt. h k (omega arith)), h l (omega arith))
 
--- the last interval comes off a number by division, and is its remainder
+-- a number so far with one link more: divided by the link's count it is the number so far, and the interval is left over
+pub split-number : (n c i : ℕ) → i < c → ((n * c + i) / c ≡ n) × ((n * c + i) % c ≡ i)
+split-number n c i lt =
+    let e : (n * c + i) / c ≡ n + i / c = mul-add-div-right (omega arith) _ _ in
+    let z : i / c ≡ 0 = div-eq-of-lt lt in
+    (omega arith, mul-add-mod-self-right _ _ _ ∙ mod-eq-of-lt lt)
+
 number-over : (s : List ℕ) (i : ℕ → ℕ) (l : ℕ) → i l < intervalsOf s l → numberOf s i (suc l) / intervalsOf s l ≡ numberOf s i l
 unfolding numberOf
-number-over s i l h =
-    let e : (numberOf s i l * intervalsOf s l + i l) / intervalsOf s l ≡ numberOf s i l + i l / intervalsOf s l = mul-add-div-right (omega arith) _ _ in
-    let z : i l / intervalsOf s l ≡ 0 = div-eq-of-lt h in
-    omega arith
+number-over s i l h = split-number _ _ _ h .0
 
 number-rest : (s : List ℕ) (i : ℕ → ℕ) (l : ℕ) → i l < intervalsOf s l → numberOf s i (suc l) % intervalsOf s l ≡ i l
 unfolding numberOf
-number-rest s i l h = mul-add-mod-self-right _ _ _ ∙ mod-eq-of-lt h
+number-rest s i l h = split-number _ _ _ h .1
 
 -- with one link more a number stays below the product, for every choice up to there
 number-below : (s : List ℕ) (l : ℕ) (i : ℕ → ℕ) → ChoiceTo s l i → numberOf s i l < productOf s l

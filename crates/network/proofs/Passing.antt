@@ -18,7 +18,7 @@ use Rattle.network.proofs.Sending.{sent-none}
 abbrev pub intoSum : Network → ℕ → (ℕ → ℕ) → ℕ
 intoSum N l f = sumTo (N .turns) (λ t. pick (eqb (N .to t) l) (f t) 0)
 
--- terms that are short by at most a weight times d: the sum is short by at most the sum of the weights times d
+-- terms that are short by at most a factor times d: the sum is short by at most the sum of the factors times d
 pub into-slack : (N : Network) (l : ℕ) (f g w : ℕ → ℕ) (d : ℕ) → ((t : ℕ) → t < N .turns → N .to t ≡ l → f t ≤ g t + w t * d)
     → intoSum N l f ≤ intoSum N l g + intoSum N l w * d
 into-slack N l f g w d h = sum-slack (N .turns) _ _ _ d (λ t lt. go t lt (eqb (N .to t) l) refl)
@@ -34,11 +34,11 @@ pub passed-slack : (N : Network) (green : ℕ → Bool) (limit : ℕ → ℕ) �
 unfolding passedIn pullSum
 passed-slack N green limit S D l hl x g d h =
     le-trans
-    (into-slack N l (λ t. N .share t * sent N limit D x (N .from t)) (λ t. N .share t * g t) weight d (λ t lt e. term t lt e (green (N .from t)) refl))
+    (into-slack N l (λ t. N .share t * sent N limit D x (N .from t)) (λ t. N .share t * g t) factor d (λ t lt e. term t lt e (green (N .from t)) refl))
     (omega (arith, mul-le-mul-right d (S .pulls l hl)))
   where
-    weight : ℕ → ℕ
-    weight t = pick (green (N .from t)) (N .share t * N .pull t) 0
+    factor : ℕ → ℕ
+    factor t = pick (green (N .from t)) (N .share t * N .pull t) 0
 
     term : (t : ℕ) → t < N .turns → N .to t ≡ l → (r : Bool) → green (N .from t) ≡ r
         → N .share t * sent N limit D x (N .from t) ≤ N .share t * g t + pick r (N .share t * N .pull t) 0 * d

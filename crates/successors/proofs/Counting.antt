@@ -1,23 +1,17 @@
 -- How many numbers pass a test of their quotient and a range of their remainder. Assumes nothing.
 use Prim.Native.Nat.{ℕ, zero, suc, _+_, _*_, _-_, _/_, _%_, _≤_, _<_}
 use mathlib.Core.Bool.{Bool, true, false, _&&_}
-use mathlib.Core.Path.{_≡_, refl, sym, ap, _∙_}
+use mathlib.Core.Path.{_≡_, refl, sym, _∙_}
 use mathlib.Core.Logic.{⊎-elim}
-use native.Mathlib.Nat.{add-mul, zero-mul, one-mul, suc-mul, mul-add-div-right, mul-add-mod-self-right, mod-eq-of-lt, div-eq-of-lt}
+use native.Mathlib.Nat.{add-mul, zero-mul, one-mul, suc-mul}
 use native.Mathlib.Omega.{arith}
 use borrow.Author.Tests.{le-leb, lt-leb}
 use lib.Dec.{leb}
 use Rattle.certificate.specs.Loops.{pick, sumTo}
 use Rattle.certificate.proofs.Loops.{sum-same, sum-none}
+use Rattle.grid.proofs.Numbers.{split-number}
 use Rattle.successors.specs.Ranges.{howMany}
 use Rattle.successors.proofs.Ranging.{below-or}
-
--- place i of row p, in rows of c
-pub split-place : (c p i : ℕ) → i < c → ((p * c + i) / c ≡ p) × ((p * c + i) % c ≡ i)
-split-place c p i lt =
-    let e : (p * c + i) / c ≡ p + i / c = mul-add-div-right (omega arith) _ _ in
-    let z : i / c ≡ 0 = div-eq-of-lt lt in
-    (omega arith, mul-add-mod-self-right _ _ _ ∙ mod-eq-of-lt lt)
 
 sum-append : (a b : ℕ) (g : ℕ → ℕ) → sumTo (a + b) g ≡ sumTo a g + sumTo b (λ i. g (a + i))
 unfolding sumTo
@@ -76,7 +70,7 @@ module _ (f t : ℕ) (filled : f ≤ t) where
   many-more p n c lt = sum-rows n c _ (λ k. pick (p k) 1 0 * (t + 1 - f)) (λ k h. same k ∙ row (p k)) ∙ sum-times n _ (t + 1 - f)
     where
       same : (k : ℕ) → sumTo c (λ i. pick (p ((k * c + i) / c) && (leb f ((k * c + i) % c) && leb ((k * c + i) % c) t)) 1 0) ≡ sumTo c (λ i. pick (p k && (leb f i && leb i t)) 1 0)
-      same k = sum-same c _ _ (λ i below. rw (split-place c k i below .0, split-place c k i below .1))
+      same k = sum-same c _ _ (λ i below. rw (split-number k c i below .0, split-number k c i below .1))
 
       row : (b : Bool) → sumTo c (λ i. pick (b && (leb f i && leb i t)) 1 0) ≡ pick b 1 0 * (t + 1 - f)
       row true = range-all c lt ∙ sym (one-mul _)

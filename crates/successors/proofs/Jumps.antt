@@ -1,18 +1,18 @@
 -- Which cells lie in ranges: told by their intervals. Assumes nothing.
-use Prim.Native.Nat.{ℕ, suc, _-_, _/_, _%_, _≤_, _<_}
+use Prim.Native.Nat.{ℕ, _-_, _≤_, _<_}
 use mathlib.Core.List.{List}
 use mathlib.Core.Bool.{Bool, true, false, _&&_, false≢true}
 use mathlib.Core.Path.{_≡_, refl, sym, _∙_}
 use mathlib.Core.Logic.{⊎-elim}
 use native.Mathlib.Omega.{arith}
-use borrow.Author.Tests.{leb-true, le-leb, lt-leb}
+use borrow.Author.Tests.{le-leb, lt-leb}
 use lib.ListN.{getD}
 use lib.Dec.{leb}
 use Rattle.certificate.specs.Loops.{every}
-use Rattle.certificate.specs.Layout.{linksOf, intervalsOf}
+use Rattle.certificate.specs.Layout.{linksOf}
 use Rattle.certificate.proofs.Loops.{every-each, each-every}
-use Rattle.certificate.proofs.Tests.{and-both, both-and}
-use Rattle.grid.specs.Cells.{prefixOf, intervalIn}
+use Rattle.certificate.proofs.Tests.{both-and}
+use Rattle.grid.specs.Cells.{intervalIn}
 use Rattle.successors.specs.Ranges.{inRange, inRanges}
 use Rattle.successors.proofs.Ranging.{below-or}
 
@@ -44,18 +44,9 @@ module _ (s first last : List ℕ) where
   unfolding inRanges
   all-in c h = each-every (linksOf s) _ h
 
-  pub each-in : (c : ℕ) → inRanges s first last c ≡ true → (l : ℕ) → l < linksOf s → inRange first last l (intervalIn s c l) ≡ true
-  unfolding inRanges
-  each-in c e l lt = every-each (linksOf s) _ e l lt
-
-  -- the same by two bounds
+  -- two bounds
   pub bounds-in : (c l : ℕ) → getD first l 0 ≤ intervalIn s c l → intervalIn s c l ≤ getD last l 0 → inRange first last l (intervalIn s c l) ≡ true
   bounds-in c l a b = both-and _ _ (le-leb _ _ a) (le-leb _ _ b)
-
-  pub in-bounds : (c : ℕ) → inRanges s first last c ≡ true → (l : ℕ) → l < linksOf s → (getD first l 0 ≤ intervalIn s c l) × (intervalIn s c l ≤ getD last l 0)
-  in-bounds c e l lt =
-      let b = and-both _ _ (each-in c e l lt) in
-      (leb-true _ _ (b .0), leb-true _ _ (b .1))
 
   -- where the range of a link is empty, no cell does
   pub none-in : (l : ℕ) → l < linksOf s → getD last l 0 < getD first l 0 → (c : ℕ) → inRanges s first last c ≡ false
@@ -64,16 +55,3 @@ module _ (s first last : List ℕ) where
       (λ a. too-low c l lt a)
       (λ (b : getD first l 0 ≤ intervalIn s c l). too-high c l lt (omega arith))
       (below-or (intervalIn s c l) (getD first l 0))
-
--- the intervals of a cell as they are read off its number from the last link back: what is left, and the rest
-pub interval-left : (s : List ℕ) (c l rest n : ℕ) → l < linksOf s → rest ≡ prefixOf s c (linksOf s - suc l) → n ≡ intervalsOf s l
-    → (rest % n ≡ intervalIn s c l) × (rest / n ≡ prefixOf s c (linksOf s - l))
-unfolding intervalIn prefixOf
-interval-left s c l rest n lt e f =
-    let up : linksOf s - l ≡ suc (linksOf s - suc l) = omega arith in
-    let same : linksOf s - suc (linksOf s - suc l) ≡ l = omega arith in
-    rw (e, f, up, same) (refl, refl)
-
-pub nothing-left : (s : List ℕ) (c l : ℕ) → l ≡ linksOf s → c ≡ prefixOf s c (linksOf s - l)
-unfolding prefixOf
-nothing-left s c l e = let none : linksOf s - l ≡ 0 = omega arith in rw none

@@ -2,25 +2,22 @@
 use Prim.Native.Nat.{ℕ, zero, suc, _+_, _*_, _-_, _/_, _%_, _≤_, _<_}
 use mathlib.Core.List.{List}
 use mathlib.Core.Bool.{Bool, true, false, _&&_, false≢true}
-use mathlib.Core.Path.{_≡_, refl, sym, ap, _∙_}
+use mathlib.Core.Path.{_≡_, refl, sym, _∙_}
 use mathlib.Core.Logic.{_⊎_, inl, inr, ⊎-elim}
-use native.Mathlib.Nat.{add-mul, mul-assoc, mul-comm, mul-one, one-mul, zero-mul, suc-mul, mul-le-mul, mul-le-mul-left, mul-le-mul-right, one-le-mul, eq-or-lt-of-le, div-add-mod', mod-lt, div-lt-iff-lt-mul, div-one}
-use native.Mathlib.Numerals.{add-one}
+use native.Mathlib.Nat.{add-mul, mul-assoc, mul-comm, mul-one, one-mul, suc-mul, mul-le-mul, mul-le-mul-left, mul-le-mul-right, one-le-mul, eq-or-lt-of-le, div-add-mod', mod-lt, div-lt-iff-lt-mul}
 use native.Mathlib.Omega.{arith}
 use borrow.Author.Tests.{leb-true}
 use lib.ListN.{getD}
-use lib.Dec.{leb}
-use Rattle.certificate.specs.Loops.{pick, every, sumTo}
+use Rattle.certificate.specs.Loops.{sumTo}
 use Rattle.certificate.specs.Layout.{maxCells, linksOf, intervalsOf, productOf, cellsOf}
 use Rattle.certificate.specs.Facts.{Readable}
 use Rattle.certificate.proofs.Loops.{every-each, each-every, sum-same}
 use Rattle.certificate.proofs.Tests.{and-both, both-and}
-use Rattle.certificate.proofs.Size.{cells-in-range}
 use Rattle.grid.specs.Cells.{prefixOf, intervalIn}
 use Rattle.successors.specs.Ranges.{inRange, inRanges, Bounded, FullAfter, RunsOf, howMany}
 use Rattle.successors.proofs.Ranging.{below-or, same-test}
 use Rattle.successors.proofs.Jumps.{none-in}
-use Rattle.successors.proofs.Counting.{split-place, many-more, none-pass}
+use Rattle.successors.proofs.Counting.{many-more, none-pass}
 
 -- number q of intervals of the first l links: they lie in the ranges
 unfoldable pub inTo : List ℕ → List ℕ → List ℕ → ℕ → ℕ → Bool

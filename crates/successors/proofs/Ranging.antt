@@ -1,24 +1,22 @@
 -- The intervals of a link that meet a range follow one another; a successor is a cell in the ranges of all links. Assumes nothing.
 use Prim.Native.Nat.{ℕ, zero, suc, _+_, _*_, _≤_, _<_}
 use mathlib.Core.List.{List}
-use mathlib.Core.Bool.{Bool, true, false, _&&_, cond}
-use mathlib.Core.Path.{_≡_, refl, sym, ap, _∙_}
+use mathlib.Core.Bool.{Bool, true, false, _&&_}
+use mathlib.Core.Path.{_≡_, refl, sym, _∙_}
 use mathlib.Core.Logic.{_⊎_, inl, inr, ⊎-elim}
-use native.Mathlib.Nat.{le-refl}
 use native.Mathlib.Omega.{arith}
 use borrow.Author.Tests.{leb-true, leb-false, ltb-true, ltb-false, lt-ltb, le-ltb, le-leb, lt-leb}
 use lib.ListN.{getD}
 use lib.Dec.{leb, ltb}
 use Rattle.certificate.specs.Loops.{pick, every}
 use Rattle.certificate.specs.Records.{cutBefore}
-use Rattle.certificate.specs.Layout.{linksOf, capOf, intervalsOf, cutOf}
+use Rattle.certificate.specs.Layout.{linksOf, intervalsOf}
 use Rattle.certificate.specs.Facts.{Readable}
 use Rattle.certificate.proofs.Loops.{every-each, each-every}
-use Rattle.grid.specs.Intervals.{isInner, lowerEdge, upperEdge}
-use Rattle.grid.specs.Cells.{intervalIn}
+use Rattle.grid.specs.Intervals.{lowerEdge, upperEdge}
 use Rattle.grid.specs.Successors.{imageLow, imageHigh, meets, isSuccessor}
 use Rattle.octets.specs.Tables.{Holds}
-use Rattle.successors.specs.Ranges.{lowMeets, IsFirst, IsLast, inRange, inRanges, Bounded, RangesOf}
+use Rattle.successors.specs.Ranges.{lowMeets, IsFirst, IsLast, inRanges, RangesOf}
 use Rattle.grid.proofs.Numbers.{is-choice}
 use Rattle.grid.proofs.Edges.{upper-inner, upper-last, upper-most, cuts-ascend}
 

@@ -1,10 +1,12 @@
 // Only the cells whose intervals lie in the ranges first .. last of every link are visited. They come in runs of consecutive cells:
 // the intervals of the range of the run link, and all those of the links after it.
 ghost use mathlib.Core.Path.{_≡_};
-ghost use Rattle.certificate.specs.Layout.{linksOf};
+ghost use Prim.Native.Nat.{_<_};
+ghost use Rattle.certificate.specs.Layout.{linksOf, cellsOf};
 ghost use Rattle.certificate.specs.Facts.{Readable};
-ghost use Rattle.cell_tables.specs.Tables.{CountsOf};
+ghost use Rattle.cell_tables.specs.Tables.{CountsOf, DigitsOf};
 ghost use Rattle.successors.specs.Ranges.{Bounded, FullAfter, inRanges};
+use cell_tables::digits as cells;
 use certificate::limits;
 
 // The run link: every link after it has its full range.
@@ -31,31 +33,26 @@ pub fn run_link<'a>(
     k
 }
 
-// Whether a cell lies in the ranges: its intervals are read off its number from the last link back, each as what is left over when the
-// rest is divided by the link's interval count.
+// Whether a cell lies in the ranges, by its intervals in the table.
 pub fn in_ranges<'a>(
     s: &[u8],
-    counts: &[usize; limits::MAX_LINKS],
+    digits: &[u8; cells::DIGITS],
     first: &'a [usize; limits::MAX_LINKS],
     last: &'a [usize; limits::MAX_LINKS],
     links: usize,
     cell: usize,
 ) -> bool
-    requires { ⌜ Readable (now s) × CountsOf (now s) (now counts) × (links ≡ linksOf (now s)) ⌝ }
+    requires { ⌜ Readable (now s) × DigitsOf (now s) (now digits) × (links ≡ linksOf (now s)) × (cell < cellsOf (now s)) ⌝ }
     ensures { λ r. ⌜ r ≡ inRanges (now (s .entry)) (now (first .entry)) (now (last .entry)) cell ⌝ }
 {
-    let mut rest = cell;
-    let mut l = links;
-    while l > 0 {
-        l -= 1;
-        let i = rest % counts[l];
+    for l in 0..links {
+        let i = cells::interval_in(s, digits, cell, l);
         if i < first[l] {
             return false;
         }
         if last[l] < i {
             return false;
         }
-        rest = rest / counts[l];
     }
     true
 }

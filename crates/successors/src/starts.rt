@@ -6,7 +6,7 @@ ghost use mathlib.Core.Path.{_≡_};
 ghost use Prim.Native.Nat.{ℕ, _+_, _*_, _-_, _<_, _≤_};
 ghost use lib.ListN.{length, getD};
 ghost use Rattle.certificate.specs.Facts.{Readable};
-ghost use Rattle.certificate.specs.Layout.{maxCells, linksOf};
+ghost use Rattle.certificate.specs.Layout.{maxIntervals, maxCells, linksOf};
 ghost use Rattle.cell_tables.specs.Tables.{CountsOf};
 ghost use Rattle.successors.specs.Ranges.{Bounded, RunsOf};
 use crate::seek;
@@ -54,7 +54,7 @@ fn first_row(starts: &mut [u16], n: usize, count: u16, i: u16)
 
 // The n numbers of the list with one link more, for its intervals from .. to: a row for each. The answer is how many they are.
 fn widen(starts: &mut [u16], n: usize, count: u16, from: usize, to: usize) -> usize
-    requires { ⌜ (length (now starts) ≡ maxCells) × (from ≤ to) × (to ≤ 15) × ((to + 1 - from) * n ≤ maxCells) × ((m : ℕ) → m < n → getD (now starts) m 0 * count + to ≤ maxCells) ⌝ }
+    requires { ⌜ (length (now starts) ≡ maxCells) × (from ≤ to) × (to ≤ maxIntervals) × ((to + 1 - from) * n ≤ maxCells) × ((m : ℕ) → m < n → getD (now starts) m 0 * count + to ≤ maxCells) ⌝ }
     ensures { λ r. ⌜ (length (now (starts .exit)) ≡ maxCells) × (r ≡ (to + 1 - from) * n) × ((j m : ℕ) → from ≤ j → j ≤ to → m < n → getD (now (starts .exit)) ((j - from) * n + m) 0 ≡ getD (now (starts .entry)) m 0 * count + j) ⌝ }
 {
     let mut at = n;

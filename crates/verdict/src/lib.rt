@@ -3,15 +3,16 @@ ghost use mathlib.Core.Path.{_≡_};
 ghost use Prim.Native.Nat.{_+_, _*_, _<_, _≤_};
 ghost use lib.ListN.{length};
 ghost use Rattle.certificate.specs.Loops.{pick};
-ghost use Rattle.certificate.specs.Layout.{maxBoxes, maxModes, maxCells, entriesOf, boxesOf, cellsOf};
+ghost use Rattle.certificate.specs.Layout.{maxBoxes, maxModes, maxCells, entriesOf, rankOf, boxesOf, cellsOf};
 ghost use Rattle.certificate.specs.Facts.{Readable};
 ghost use Rattle.reading.specs.ReadingResults.{LaidOut, ReadAs};
 ghost use Rattle.network.specs.Laws.{Screened};
 ghost use Rattle.supply.specs.Supply.{FirstTurns};
-ghost use Rattle.cell_tables.specs.Tables.{GridOf, DigitsOf};
+ghost use Rattle.cell_tables.specs.Tables.{DigitsOf};
 ghost use Rattle.rank_tables.specs.Index.{RanksOf};
-ghost use Rattle.judging.specs.EntryTests.{judgingFrom};
-ghost use Rattle.entry_setup.specs.Tables.{CapsOf, TablesOf};
+ghost use Rattle.judging.specs.EntryTests.{standingFault, judgingFrom};
+ghost use Rattle.entry_standing.specs.Where.{UpperEdges};
+ghost use Rattle.entry_setup.specs.Tables.{TablesOf};
 ghost use Rattle.verdict.specs.Entries.{entryAlone, JudgedAs};
 ghost use Rattle.judging.specs.Verdict.{verdictOf};
 ghost use Rattle.judging.specs.Overflow.{entryOverflows, overflowsOf};
@@ -48,6 +49,27 @@ pub fn refused(report: Report) -> Verdict
     Verdict { report, overflows }
 }
 
+// How entry e stands (12, 13), given its rank and the upper edges of its cell.
+fn standing(
+    s: &[u8],
+    layout: Layout,
+    e: usize,
+    rank: usize,
+    upper: &[usize; limits::MAX_LINKS],
+    count: u32,
+) -> Report
+    requires { ⌜ Readable (now s) × LaidOut (now s) layout × (e < entriesOf (now s)) × (rank ≡ rankOf (now s) e) × UpperEdges (now s) e (now upper) ⌝ }
+    ensures { λ r. ⌜ r ≡ standingFault (now (s .entry)) e count ⌝ }
+{
+    let at = entry_standing::Where {
+        links: layout.links,
+        modes_start: layout.modes_start,
+        mode_size: layout.mode_size,
+        entries_start: layout.entries_start,
+    };
+    entry_standing::check_standing(s, at, e, rank, upper, count)
+}
+
 // One entry judged alone: its standing, then its successors.
 fn judge_entry(
     s: &[u8],
@@ -66,19 +88,12 @@ fn judge_entry(
     requires { ⌜ LaidOut (now s) layout × TablesOf (now s) (layout .links) (now counts) (now caps) (now edges) (now arrivals) × FirstTurns (now s) (now «first_turns») × RanksOf (now s) (now ranks) × (e < entriesOf (now s)) × (count ≤ maxBoxes * maxCells * e) × DigitsOf (now s) (now digits) × (length (now runs) ≡ maxCells) ⌝ }
     ensures { λ r. ⌜ (r .report ≡ entryAlone (now (s .entry)) e count) × (r .report .count ≤ maxBoxes * maxCells * (e + 1)) × (length (now (runs .exit)) ≡ maxCells) × (r .report .number ≡ 0 → r .over ≡ entryOverflows (now (s .entry)) e) ⌝ }
 {
-    let links = layout.links;
     let task = entry::task_of(s, layout, e);
     let c = entries::cell_of(s, layout.entries_start, e);
     let mut lower = [0usize; limits::MAX_LINKS];
     let mut upper = [0usize; limits::MAX_LINKS];
-    entry::cell_edges(s, digits, edges, links, c, &mut lower, &mut upper);
-    let at = entry_standing::Where {
-        links,
-        modes_start: layout.modes_start,
-        mode_size: layout.mode_size,
-        entries_start: layout.entries_start,
-    };
-    let f = entry_standing::check_standing(s, at, e, task.rank, &upper, count);
+    entry::cell_edges(s, digits, edges, layout.links, c, &mut lower, &mut upper);
+    let f = standing(s, layout, e, task.rank, &upper, count);
     if f.number != 0 {
         return search::Searched {
             report: f,
@@ -100,10 +115,11 @@ fn judge_entry(
     search::search_boxes(
         s,
         task,
-        links,
+        layout.links,
         caps,
         counts,
         ranks,
+        digits,
         edges,
         arrivals,
         runs,

@@ -19,28 +19,14 @@ cell-edges-requires c κs = let p = c .before .before .before .before .before .b
     let R = T .screened .readable in
     (R, p .6, T .edge, T .grid .link, rw (c .before .before .cell-of .ensures .0) (R .entry _ (p .4) .cell), refl, refl)
 
-check-standing-requires : tie.Need-check-standing-requires
-check-standing-requires c κs = let p = c .before .before .before .before .before .before .before .before .pre in
-    let T = p .1 in
+standing-requires : tie.Need-standing-requires
+standing-requires c κs = let p = c .before .before .before .before .before .before .before .before .pre in
     let K = c .before .before .before .before .before .task-of .ensures in
-    let R = T .screened .readable in (
-      record {
-        links-are = p .0 .links-are;
-        links-most = p .0 .links-most;
-        modes-is = p .0 .modes-start-is;
-        modes-most = p .0 .modes-start-most;
-        size-is = p .0 .mode-size-is;
-        size-most = p .0 .mode-size-most;
-        entries-is = p .0 .entries-start-is;
-        entries-most = p .0 .entries-start-most;
-      },
-      omega (arith, p .4, R .header .entries-most),
-      rw (K .1) at (K .0 .rank-is),
-      (rw (c .before .before .before .before .cell-of .ensures .0) at (c .before .cell-edges .ensures)) .upper-is,
-    )
+    let E = rw (c .before .before .before .before .cell-of .ensures .0) at (c .before .cell-edges .ensures) in
+    (p .1 .screened .readable, p .0, p .4, rw (K .1) at (K .0 .rank-is), E .upper-is)
 
 returns : tie.Need-returns
-returns c = let f = c .before .before .check-standing in
+returns c = let f = c .before .before .standing in
     let p = c .before .before .before .before .before .before .before .before .before .before .before .pre in
     (not-standing _ _ _ _ (f .ensures) (c .if1 .taken), omega (arith, standing-count _ _ _ _ (f .ensures), p .5), p .7, λ z. absurd (c .if1 .taken z))
 
@@ -51,14 +37,14 @@ entry-ends-requires c κs = let p = c .before .before .before .before .before .b
 search-boxes-requires : tie.Need-search-boxes-requires
 search-boxes-requires c κs = let p = c .before .before .before .before .before .before .before .before .before .before .before .before .before .before .before .before .before .before .before .pre in
     let K = c .before .before .before .before .before .before .before .before .before .before .before .before .before .before .before .before .task-of .ensures in
-    (p .1, p .3, K .0, rw (K .1) (c .before .before .before .entry-ends .ensures), rw (K .1) (p .5), p .7)
+    (p .1, p .3, p .6, K .0, rw (K .1) (c .before .before .before .entry-ends .ensures), rw (K .1) (p .5), p .7)
 
 same-length : tie.Need-same-length
 same-length c = omega (arith, c .before .before .search-boxes .ensures .2, c .before .before .before .before .before .before .before .before .before .before .before .before .before .before .before .before .before .before .before .before .before .before .pre .7)
 
 returns-2 : tie.Need-returns-2
 returns-2 c = let K = c .before .before .before .before .before .before .before .before .before .before .before .before .before .before .before .before .before .before .before .task-of .ensures in
-    let f = c .before .before .before .before .before .before .before .before .before .before .before .before .before .check-standing in
+    let f = c .before .before .before .before .before .before .before .before .before .before .before .before .before .standing in
     let r = c .before .before .search-boxes .ensures in
     let e = rw (K .1) at (r .0) in
     (searched _ _ _ _ (f .ensures) _ (c .before .before .before .before .before .before .before .before .before .before .before .if1 .left) e, rw (K .1) at (r .1), r .2, rw (K .1) at (r .3))
@@ -70,7 +56,7 @@ judge-entry-spec =
     task-of-requires
     cell-of-requires
     cell-edges-requires
-    check-standing-requires
+    standing-requires
     returns
     entry-ends-requires
     search-boxes-requires

@@ -5,7 +5,7 @@ use mathlib.Core.Path.{_≡_}
 use native.Mathlib.Omega.{arith}
 use borrow.Author.Needs.{needs}
 use lib.ListN.{getD, set}
-use Rattle.certificate.specs.Layout.{intervalsOf}
+use Rattle.certificate.specs.Layout.{maxIntervals, intervalsOf}
 use Rattle.cell_tables.proofs.Counting.{Row, Counted, interval-small, count-start, count-end, count-stop, count-on}
 use Rattle.cell_tables.proofs.digits.count_up.Statement.{statement}
 use Rattle.cell_tables.proofs.digits.count_up.Tie as tie
@@ -24,7 +24,7 @@ module _ (a : tie.Start Inv-loop μ-loop) (l : ℕ) (x : List ℕ) (some : 0 < l
   count : getD (a .args .counts .now) (l - 1) 0 ≡ intervalsOf (a .args .s .now) (l - 1)
   count = a .pre .0 .count (l - 1) (omega (arith, inv .most))
 
-  small : getD x (l - 1) 0 < 15
+  small : getD x (l - 1) 0 < maxIntervals
   small = interval-small (a .args .s .now) (a .pre .0 .readable) (a .args .cell) (l - 1) x here
 
   goes-up : getD x (l - 1) 0 + 1 < getD (a .args .counts .now) (l - 1) 0 → Row (a .args .s .now) (a .args .cell + 1) (set x (l - 1) (getD x (l - 1) 0 + 1))

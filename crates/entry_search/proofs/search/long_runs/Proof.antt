@@ -1,10 +1,9 @@
 -- `entry_search::search::long_runs` meets its contract. Assumes nothing.
-use Prim.Native.Nat.{ℕ, _+_, _*_, _-_, _≤_, _<_}
-use mathlib.Core.Path.{_≡_, refl, sym, _∙_}
-use native.Mathlib.Nat.{mul-le-mul-right, mul-comm}
+use Prim.Native.Nat.{_+_, _*_, _-_, _≤_}
+use mathlib.Core.Path.{_≡_}
+use native.Mathlib.Nat.{mul-le-mul-right}
 use native.Mathlib.Omega.{arith}
 use borrow.Author.Needs.{needs}
-use lib.ListN.{length, getD}
 use Rattle.entry_search.proofs.InBoxes.{InRuns, runs-none, runs-more, runs-all}
 use Rattle.entry_search.proofs.search.long_runs.Statement.{statement}
 use Rattle.entry_search.proofs.search.long_runs.Tie as tie

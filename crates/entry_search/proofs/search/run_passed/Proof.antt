@@ -1,9 +1,7 @@
 -- `entry_search::search::run_passed` meets its contract. Assumes nothing.
-use Prim.Native.Nat.{ℕ, _+_, _*_, _-_, _≤_, _<_}
-use mathlib.Core.Path.{_≡_, refl, sym, _∙_}
+use Prim.Native.Nat.{_+_, _-_, _≤_}
+use mathlib.Core.Path.{_≡_}
 use native.Mathlib.Omega.{arith}
-use borrow.Author.Needs.{needs}
-use lib.ListN.{length, getD}
 use Rattle.entry_search.specs.Search.{Passed, passes}
 use Rattle.entry_search.proofs.InBoxes.{passed-none, passed-more}
 use Rattle.entry_search.proofs.search.run_passed.Statement.{statement}

@@ -1,9 +1,9 @@
 -- `entry_search::search::search_boxes` meets its contract: at every place, what is found from there on with what was counted is what the
 -- definition finds. Assumes nothing.
-use Prim.Native.Nat.{ℕ, _+_, _*_, _-_, _≤_, _<_}
+use Prim.Native.Nat.{_+_, _-_, _≤_, _<_}
 use mathlib.Core.Path.{_≡_, refl, sym, ap, _∙_}
 use native.Mathlib.Omega.{arith}
-use lib.ListN.{length, getD}
+use lib.ListN.{length}
 use borrow.Author.Needs.{needs}
 use Rattle.certificate.specs.declared.Report.{Report}
 use Rattle.certificate.specs.Checks.{fine}
@@ -17,46 +17,46 @@ use Rattle.entry_search.proofs.search.search_boxes.Statement.{statement
 use Rattle.entry_search.proofs.search.search_boxes.Tie as tie
 
 abbrev Inv-loop : tie.InvT-loop
-Inv-loop s task links caps counts ranks edges arrivals runs low high count found₀ total₀ over first last b exceeds d₀ b-end found total d =
+Inv-loop s task links caps counts ranks digits edges arrivals runs low high count found₀ total₀ over first last b exceeds d₀ b-end found total d =
     InBox s (task .entry) count b total d × (found ≡ fine) × (over ≡ anyTo (b + 1) (boxOverflows s (task .entry)))
 
 abbrev μ-loop : tie.MeasureT-loop
-μ-loop s task links caps counts ranks edges arrivals runs low high count found₀ total₀ over first last b exceeds d₀ b-end found total d =
+μ-loop s task links caps counts ranks digits edges arrivals runs low high count found₀ total₀ over first last b exceeds d₀ b-end found total d =
     task .cells - d
 
 abbrev Inv-search : tie.InvT-search
-Inv-search s task links caps counts ranks edges arrivals runs₀ low high count found₀ total₀ over₀ first₀ last₀ b₀ b-end runs found total over first last b =
+Inv-search s task links caps counts ranks digits edges arrivals runs₀ low high count found₀ total₀ over₀ first₀ last₀ b₀ b-end runs found total over first last b =
     AtBox s (task .entry) count b total × (found ≡ fine) × (b ≤ task .boxes) × (length runs ≡ 4096) × (over ≡ anyTo b (boxOverflows s (task .entry))) × (length first ≡ 8) × (length last ≡ 8)
 
 abbrev μ-search : tie.MeasureT-search
-μ-search s task links caps counts ranks edges arrivals runs₀ low high count found₀ total₀ over₀ first₀ last₀ b₀ b-end runs found total over first last b =
+μ-search s task links caps counts ranks digits edges arrivals runs₀ low high count found₀ total₀ over₀ first₀ last₀ b₀ b-end runs found total over first last b =
     task .boxes - b
 
 accept-requires : tie.Need-accept-requires Inv-loop μ-loop Inv-search μ-search
 accept-requires c κs = search needs
 
 search-holds : tie.Need-search-holds Inv-loop μ-loop Inv-search μ-search
-search-holds c = let p = c .before .before .before .pre in (box-none _ _ _ (p .4), c .accept .ensures, omega arith, p .5, any-none _, refl, refl)
+search-holds c = let p = c .before .before .before .pre in (box-none _ _ _ (p .5), c .accept .ensures, omega arith, p .6, any-none _, refl, refl)
 
 box-ranges-requires : tie.Need-box-ranges-requires Inv-loop μ-loop Inv-search μ-search
 box-ranges-requires c κs =
     let q = c .before .before .before .search in
     let p = c .before .before .before .before .before .before .before .pre in
     let T = p .0 in
-    (T .screened, T .grid .count, T .grid .link, T .cap, T .edge, T .arrival, p .2, p .3, c .before .before .search-test .taken, q .inv .5, q .inv .6)
+    (T .screened, T .grid .count, T .grid .link, T .cap, T .edge, T .arrival, p .3, p .4, c .before .before .search-test .taken, q .inv .5, q .inv .6)
 
 whole-box-requires : tie.Need-whole-box-requires Inv-loop μ-loop Inv-search μ-search
 whole-box-requires c κs =
     let q = c .before .before .before .before .before .before .before .search in
     let p = c .before .before .before .before .before .before .before .before .before .before .before .pre in
     let T = p .0 in
-    (p .2, p .1, T .screened .readable, T .grid .count, T .grid .link, c .before .before .before .box-ranges .ensures .0, q .inv .3)
+    (p .3, p .1, T .screened .readable, T .grid .count, T .grid .link, c .before .before .before .box-ranges .ensures .0, q .inv .3)
 
 add-total : tie.Need-add-total Inv-loop μ-loop Inv-search μ-search
 add-total c =
     let q = c .before .before .before .before .before .before .before .before .before .before .before .search in
     let a = c .before .before .before .before .before .before .before .before .before .before .before .before .before .before .before in
-    let K = a .pre .2 in
+    let K = a .pre .3 in
     let s = a .args .s .now in
     let h = c .before .before .before .before .before .before .before .before .before .before .search-test .taken in
     let lt : q .b < boxesOf s = omega (arith, h, K .boxes-is) in
@@ -68,7 +68,7 @@ loop-holds : tie.Need-loop-holds Inv-loop μ-loop Inv-search μ-search
 loop-holds c =
     let q = c .before .before .before .before .before .before .before .before .before .before .before .search in
     let a = c .before .before .before .before .before .before .before .before .before .before .before .before .before .before .before in
-    let K = a .pre .2 in
+    let K = a .pre .3 in
     let s = a .args .s .now in
     let h = c .before .before .before .before .before .before .before .before .before .before .search-test .taken in
     let lt : q .b < boxesOf s = omega (arith, h, K .boxes-is) in
@@ -79,13 +79,13 @@ look-requires : tie.Need-look-requires Inv-loop μ-loop Inv-search μ-search
 look-requires c κs =
     let p = c .before .before .before .before .before .before .before .before .before .before .before .before .before .before .before .before .before .before .before .before .pre in
     let T = p .0 in
-    (p .2, p .1, T .screened .readable, T .grid .count, T .grid .link, c .before .before .before .before .before .before .before .before .before .before .before .before .box-ranges .ensures .0, c .before .before .if1 .taken)
+    (p .3, p .1, T .screened .readable, p .2, T .grid .link, c .before .before .before .before .before .before .before .before .before .before .before .before .box-ranges .ensures .0, c .before .before .if1 .taken)
 
 add-total-2 : tie.Need-add-total-2 Inv-loop μ-loop Inv-search μ-search
 add-total-2 c =
     let q = c .before .before .before .before .before .before .before .before .before .before .before .before .before .before .before .before .before .before .search in
     let a = c .before .before .before .before .before .before .before .before .before .before .before .before .before .before .before .before .before .before .before .before .before .before in
-    let K = a .pre .2 in
+    let K = a .pre .3 in
     let s = a .args .s .now in
     let h = c .before .before .before .before .before .before .before .before .before .before .before .before .before .before .before .before .before .search-test .taken in
     let lt : q .b < boxesOf s = omega (arith, h, K .boxes-is) in
@@ -99,7 +99,7 @@ report-requires : tie.Need-report-requires Inv-loop μ-loop Inv-search μ-search
 report-requires c κs =
     let q = c .before .before .before .before .before .before .before .before .before .before .before .before .before .before .before .before .before .before .before .before .search in
     let a = c .before .before .before .before .before .before .before .before .before .before .before .before .before .before .before .before .before .before .before .before .before .before .before .before in
-    let K = a .pre .2 in
+    let K = a .pre .3 in
     let s = a .args .s .now in
     let h = c .before .before .before .before .before .before .before .before .before .before .before .before .before .before .before .before .before .before .before .search-test .taken in
     let lt : q .b < boxesOf s = omega (arith, h, K .boxes-is) in
@@ -111,7 +111,7 @@ add-d : tie.Need-add-d Inv-loop μ-loop Inv-search μ-search
 add-d c =
     let q = c .before .before .before .before .before .before .before .before .before .before .before .before .before .before .before .before .before .before .before .before .search in
     let a = c .before .before .before .before .before .before .before .before .before .before .before .before .before .before .before .before .before .before .before .before .before .before .before .before in
-    let K = a .pre .2 in
+    let K = a .pre .3 in
     let s = a .args .s .now in
     let h = c .before .before .before .before .before .before .before .before .before .before .before .before .before .before .before .before .before .before .before .search-test .taken in
     let lt : q .b < boxesOf s = omega (arith, h, K .boxes-is) in
@@ -126,7 +126,7 @@ loop-again : tie.Need-loop-again Inv-loop μ-loop Inv-search μ-search
 loop-again c =
     let q = c .before .before .before .before .before .before .before .before .before .before .before .before .before .before .before .before .before .before .before .before .search in
     let a = c .before .before .before .before .before .before .before .before .before .before .before .before .before .before .before .before .before .before .before .before .before .before .before .before in
-    let K = a .pre .2 in
+    let K = a .pre .3 in
     let s = a .args .s .now in
     let h = c .before .before .before .before .before .before .before .before .before .before .before .before .before .before .before .before .before .before .before .search-test .taken in
     let lt : q .b < boxesOf s = omega (arith, h, K .boxes-is) in
@@ -140,7 +140,7 @@ add-b : tie.Need-add-b Inv-loop μ-loop Inv-search μ-search
 add-b c =
     let q = c .before .before .before .before .before .before .before .before .before .before .before .before .before .before .search in
     let a = c .before .before .before .before .before .before .before .before .before .before .before .before .before .before .before .before .before .before in
-    let K = a .pre .2 in
+    let K = a .pre .3 in
     let s = a .args .s .now in
     let h = c .before .before .before .before .before .before .before .before .before .before .before .before .before .search-test .taken in
     let lt : q .b < boxesOf s = omega (arith, h, K .boxes-is) in
@@ -154,7 +154,7 @@ search-again : tie.Need-search-again Inv-loop μ-loop Inv-search μ-search
 search-again c =
     let q = c .before .before .before .before .before .before .before .before .before .before .before .before .before .before .search in
     let a = c .before .before .before .before .before .before .before .before .before .before .before .before .before .before .before .before .before .before in
-    let K = a .pre .2 in
+    let K = a .pre .3 in
     let s = a .args .s .now in
     let h = c .before .before .before .before .before .before .before .before .before .before .before .before .before .search-test .taken in
     let lt : q .b < boxesOf s = omega (arith, h, K .boxes-is) in
@@ -164,25 +164,25 @@ search-again c =
     (box-shut s _ _ _ _ _ few (omega (arith, c .if1 .left, K .cells-is)) (l .inv .0), l .inv .1, omega (arith, h), c .before .before .before .before .before .before .whole-box .ensures .1, l .inv .2, r .1, r .2)
 
 same-length : tie.Need-same-length Inv-loop μ-loop Inv-search μ-search
-same-length c = omega (arith, c .before .search .inv .3, c .before .before .before .before .before .pre .5)
+same-length c = omega (arith, c .before .search .inv .3, c .before .before .before .before .before .pre .6)
 
 returns : tie.Need-returns Inv-loop μ-loop Inv-search μ-search
 returns c =
     let q = c .before .search in
     let a = c .before .before .before .before .before in
-    let K = a .pre .2 in
+    let K = a .pre .3 in
     let s = a .args .s .now in
     let ge : boxesOf s ≤ q .b = omega (arith, c .search-test .left, K .boxes-is) in
     (rw (q .inv .1) (box-end s _ _ _ _ ge (q .inv .0)), omega (arith, q .inv .0 .most, q .inv .2, K .boxes-most), q .inv .3, λ _. all-boxes _ _ _ (omega (arith, q .inv .2, ge, K .boxes-is)) (q .inv .4))
 
 same-length-2 : tie.Need-same-length-2 Inv-loop μ-loop Inv-search μ-search
-same-length-2 c = omega (arith, c .before .before .before .before .before .before .before .before .before .before .before .before .before .whole-box .ensures .1, c .before .before .before .before .before .before .before .before .before .before .before .before .before .before .before .before .before .before .before .before .before .before .before .before .before .pre .5)
+same-length-2 c = omega (arith, c .before .before .before .before .before .before .before .before .before .before .before .before .before .whole-box .ensures .1, c .before .before .before .before .before .before .before .before .before .before .before .before .before .before .before .before .before .before .before .before .before .before .before .before .before .pre .6)
 
 returns-2 : tie.Need-returns-2 Inv-loop μ-loop Inv-search μ-search
 returns-2 c =
     let q = c .before .before .before .before .before .before .before .before .before .before .before .before .before .before .before .before .before .before .before .before .before .search in
     let a = c .before .before .before .before .before .before .before .before .before .before .before .before .before .before .before .before .before .before .before .before .before .before .before .before .before in
-    let K = a .pre .2 in
+    let K = a .pre .3 in
     let s = a .args .s .now in
     let h = c .before .before .before .before .before .before .before .before .before .before .before .before .before .before .before .before .before .before .before .before .search-test .taken in
     let lt : q .b < boxesOf s = omega (arith, h, K .boxes-is) in

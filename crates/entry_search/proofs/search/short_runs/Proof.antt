@@ -1,10 +1,8 @@
 -- `entry_search::search::short_runs` meets its contract. Assumes nothing.
-use Prim.Native.Nat.{ℕ, _+_, _*_, _-_, _≤_, _<_}
-use mathlib.Core.Path.{_≡_, refl, sym, _∙_}
+use Prim.Native.Nat.{_+_, _*_, _-_, _≤_}
+use mathlib.Core.Path.{_≡_}
 use native.Mathlib.Nat.{mul-le-mul-right, mul-comm}
 use native.Mathlib.Omega.{arith}
-use borrow.Author.Needs.{needs}
-use lib.ListN.{length, getD}
 use Rattle.entry_search.proofs.InBoxes.{InColumns, columns-none, columns-more, columns-all}
 use Rattle.entry_search.proofs.search.short_runs.Statement.{statement}
 use Rattle.entry_search.proofs.search.short_runs.Tie as tie

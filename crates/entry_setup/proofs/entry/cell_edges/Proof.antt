@@ -1,9 +1,8 @@
 -- `entry_setup::entry::cell_edges` meets its contract. Assumes nothing.
 use Prim.Native.Nat.{_-_, _≤_, _<_}
-use mathlib.Core.Path.{refl, ap, _∙_}
+use mathlib.Core.Path.{ap, _∙_}
 use native.Mathlib.Omega.{arith}
 use borrow.Author.Count.{below-none}
-use borrow.Author.Needs.{needs}
 use Rattle.certificate.specs.Layout.{linksOf}
 use Rattle.grid.specs.Intervals.{lowerEdge, upperEdge}
 use Rattle.grid.specs.Cells.{lowerOf, upperOf}

@@ -2,13 +2,13 @@
 use Prim.Native.Nat.{_+_, _-_, _≤_}
 use mathlib.Core.Path.{_≡_}
 use native.Mathlib.Omega.{arith}
-use Rattle.certificate.specs.Layout.{intervalsOf}
+use Rattle.certificate.specs.Layout.{maxIntervals, intervalsOf}
 use Rattle.successors.proofs.Ranging.{Passed, passed-none, passed-more, first-inside, first-beyond, last-inside}
 use Rattle.successors.proofs.ranges.range_of.Statement.{statement}
 use Rattle.successors.proofs.ranges.range_of.Tie as tie
 
 abbrev Inv-loop : tie.InvT-loop
-Inv-loop s edges l count low high first₀ last₀ inner i₀ first last i = Passed s l low first i × Passed s l high last i × (inner + 1 ≡ intervalsOf s l) × (inner + 1 ≤ 15) × (i ≤ inner)
+Inv-loop s edges l count low high first₀ last₀ inner i₀ first last i = Passed s l low first i × Passed s l high last i × (inner + 1 ≡ intervalsOf s l) × (inner + 1 ≤ maxIntervals) × (i ≤ inner)
 
 abbrev μ-loop : tie.MeasureT-loop
 μ-loop s edges l count low high first₀ last₀ inner i₀ first last i = inner - i

@@ -2,7 +2,7 @@
 use Prim.Native.Nat.{_+_, _*_, _≤_, _<_}
 use native.Mathlib.Omega.{arith}
 use lib.ListN.{getD}
-use Rattle.certificate.specs.Layout.{linksOf, intervalsOf}
+use Rattle.certificate.specs.Layout.{maxIntervals, linksOf, intervalsOf}
 use mathlib.Core.Path.{_≡_}
 use Rattle.grid.specs.Intervals.{upperEdge}
 use Rattle.grid.proofs.Edges.{upper-most}
@@ -10,8 +10,8 @@ use borrow.Author.Needs.{needs}
 use Rattle.successors.proofs.ranges.upper_at.Statement.{statement}
 use Rattle.successors.proofs.ranges.upper_at.Tie as tie
 
--- what the tables hold: at most 15 intervals, the upper edge, which is at most cap
-count : (c : tie.Start) → intervalsOf (c .args .s .now) (c .args .l) ≤ 15
+-- what the tables hold: not too many intervals, the upper edge, which is at most cap
+count : (c : tie.Start) → intervalsOf (c .args .s .now) (c .args .l) ≤ maxIntervals
 count c = c .pre .0 .grid (c .args .l) (omega arith) .count-most
 
 edge : (c : tie.Start) → getD (c .args .edges .now) (16 * c .args .l + c .args .i + 1) 0 ≡ upperEdge (c .args .s .now) (c .args .l) (c .args .i)

@@ -1,10 +1,9 @@
--- `entry_setup::entry::interval_in` meets its contract. Assumes nothing.
+-- `cell_tables::digits::interval_in` meets its contract. Assumes nothing.
 use native.Mathlib.Omega.{arith}
-use mathlib.Core.Path.{_∙_}
-use Rattle.entry_setup.proofs.EntryEnds.{interval-exists, table-place}
+use Rattle.cell_tables.proofs.Filling.{interval-exists, table-place}
 use borrow.Author.Needs.{needs}
-use Rattle.entry_setup.proofs.entry.interval_in.Statement.{statement}
-use Rattle.entry_setup.proofs.entry.interval_in.Tie as tie
+use Rattle.cell_tables.proofs.digits.interval_in.Statement.{statement}
+use Rattle.cell_tables.proofs.digits.interval_in.Tie as tie
 
 mul-wide : tie.Need-mul-wide
 mul-wide c = let a = c .before in omega (arith, table-place (a .args .s .now) (a .pre .0) _ _ (a .pre .2) (a .pre .3))
