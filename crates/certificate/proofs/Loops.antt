@@ -3,7 +3,7 @@ use Prim.Native.Nat.{ℕ, zero, suc, _+_, _*_, _-_, _≤_, _<_}
 use mathlib.Core.Bool.{Bool, true, false, _&&_, _||_, false≢true}
 use mathlib.Core.Path.{_≡_, refl, sym, _∙_}
 use mathlib.Core.Logic.{_⊎_, inl, inr, ⊎-elim}
-use native.Mathlib.Nat.{eq-or-lt-of-le, add-mul}
+use native.Mathlib.Nat.{eq-or-lt-of-le, add-mul, suc-mul}
 use native.Mathlib.Numerals.{add-one}
 use native.Mathlib.Omega.{arith}
 use borrow.Author.Tests.{leb-true, leb-false}
@@ -154,6 +154,40 @@ pub sum-none : (n : ℕ) (f : ℕ → ℕ) → ((t : ℕ) → t < n → f t ≡ 
 unfolding sumTo
 sum-none zero f h = refl
 sum-none (suc n) f h = rw (sum-none n f (λ t lt. h t (omega arith)), h n (omega arith))
+
+-- one term more
+pub sum-next : (n : ℕ) (f : ℕ → ℕ) → sumTo (n + 1) f ≡ sumTo n f + f n
+unfolding sumTo
+sum-next n f = rw add-one
+
+-- sums of sums
+sum-plus : (n : ℕ) (f g : ℕ → ℕ) → sumTo n (λ t. f t + g t) ≡ sumTo n f + sumTo n g
+unfolding sumTo
+sum-plus zero f g = refl
+sum-plus (suc n) f g = omega (arith, sum-plus n f g)
+
+pub sum-swap : (n m : ℕ) (h : ℕ → ℕ → ℕ) → sumTo n (λ l. sumTo m (h l)) ≡ sumTo m (λ t. sumTo n (λ l. h l t))
+unfolding sumTo
+sum-swap zero m h = sym (sum-none m _ (λ _ _. refl))
+sum-swap (suc n) m h = omega (arith, sum-swap n m h, sum-plus m (λ t. sumTo n (λ l. h l t)) (h n))
+
+-- a sum of terms that are at most m: at most n × m, and that where each of them is m
+module _ (m : ℕ) (f : ℕ → ℕ) where
+  pub sum-most : (n : ℕ) → ((t : ℕ) → t < n → f t ≤ m) → sumTo n f ≤ n * m
+  unfolding sumTo
+  sum-most zero h = omega arith
+  sum-most (suc n) h = omega (arith, sum-most n (λ t lt. h t (omega arith)), h n (omega arith), suc-mul n m)
+
+  pub sum-full : (n : ℕ) → ((t : ℕ) → t < n → f t ≤ m) → sumTo n f ≡ n * m → (t : ℕ) → t < n → f t ≡ m
+  unfolding sumTo
+  sum-full zero h e t lt = absurd (omega arith)
+  sum-full (suc n) h e t lt =
+      let less : (k : ℕ) → k < n → f k ≤ m = λ k below. h k (omega arith) in
+      let most = sum-most n less in
+      ⊎-elim
+      (λ (same : t ≡ n). rw same (omega (arith, most, h n (omega arith), suc-mul n m)))
+      (λ (under : t < n). sum-full n less (omega (arith, most, h n (omega arith), suc-mul n m)) t under)
+      (eq-or-lt-of-le (omega arith))
 
 -- a sum whose every term is short by at most a factor times d is short by at most the sum of the factors times d
 pub sum-slack : (n : ℕ) (f g w : ℕ → ℕ) (d : ℕ) → ((t : ℕ) → t < n → f t ≤ g t + w t * d) → sumTo n f ≤ sumTo n g + sumTo n w * d

@@ -3,22 +3,21 @@ use Prim.Native.Nat.{ℕ, zero, suc, _+_, _-_, _*_, _≤_, _<_}
 use mathlib.Core.List.{List}
 use mathlib.Core.Bool.{Bool, true, false}
 use mathlib.Core.Path.{_≡_, refl, sym, ap, _∙_}
-use native.Mathlib.Nat.{suc-mul, mul-comm}
+use native.Mathlib.Nat.{mul-one}
 use native.Mathlib.Numerals.{add-one}
 use native.Mathlib.Omega.{arith}
-use borrow.Author.Count.{below-more}
 use lib.ListN.{length, getD}
 use Rattle.certificate.specs.declared.Report.{Report}
 use Rattle.certificate.specs.Loops.{pick, sumTo}
 use Rattle.certificate.specs.Checks.{result}
 use Rattle.certificate.specs.Layout.{cellsOf, boxesOf, cellOf}
-use Rattle.certificate.proofs.Loops.{sum-same}
+use Rattle.certificate.proofs.Loops.{sum-same, sum-next, sum-swap, sum-most, sum-full}
 use Rattle.network.specs.Network.{entryLimit}
 use Rattle.network.specs.Laws.{Screened}
 use Rattle.successors.specs.Ranges.{RangesOf, RunsOf, inRanges, howMany}
 use Rattle.successors.proofs.Ranging.{successor-in-ranges}
 use Rattle.judging.specs.EntryTests.{follows, successorFault}
-use Rattle.entry_search.specs.Search.{EntryImage, BoxRanges, Passed, RunsFit, AllPassed, AtCell, boxesFrom, cellsFrom, passes}
+use Rattle.entry_search.specs.Search.{EntryImage, BoxRanges, RunsFit, AtCell, boxesFrom, cellsFrom, passes, runPassing, columnPassing, runsPassing}
 use Rattle.entry_search.proofs.Successors.{looked-refused, looked-fine, passes-met}
 use Rattle.entry_search.proofs.Searching.{open-box, shut-box, end-search, pass-over, holds, stops}
 
@@ -32,7 +31,6 @@ ranges-are s S e b from to first last over I R =
       same = successor-in-ranges s (S .readable) (entryLimit s e) b (cellOf s e) from to first last (I .low-is) (I .high-is) R;
     }
 
--- a test counted over the indices: none yet, and one more
 one-most : (b : Bool) → pick b 1 0 ≤ 1
 one-most true = omega arith
 one-most false = omega arith
@@ -41,71 +39,40 @@ one-is : (b : Bool) → pick b 1 0 ≡ 1 → b ≡ true
 one-is true e = refl
 one-is false e = absurd (omega arith)
 
-pub passed-none : (p : ℕ → Bool) → Passed 0 0 p
-passed-none p = record { most = omega arith; each = λ e i lt. absurd (omega arith) }
-
-pub passed-more : (n r one : ℕ) (p : ℕ → Bool) → Passed n r p → one ≡ pick (p n) 1 0 → Passed (n + 1) (r + one) p
-passed-more n r one p P is =
-    record {
-      most = omega (arith, P .most, one-most (p n));
-      each = λ e.
-          let all : r ≡ n = omega (arith, P .most, one-most (p n)) in
-          below-more (λ i. p i ≡ true) n (P .each all) (one-is (p n) (omega (arith, all)));
-    }
-
--- cells of runs, counted in columns or run by run
-module _ (s : List ℕ) (e : ℕ) (runs : List ℕ) where
-  -- of the first k columns
-  pub record InColumns (n k r : ℕ) : Type 0 where
-    pub most : r ≤ k * n
-    pub each : r ≡ k * n → (j : ℕ) → j < k → (i : ℕ) → i < n → passes s e (getD runs i 0 + j) ≡ true
-
-  pub columns-none : (n : ℕ) → InColumns n 0 0
-  columns-none n = record { most = omega arith; each = λ h j lt. absurd (omega arith) }
-
-  pub columns-more : (n k r one : ℕ) → InColumns n k r → Passed n one (λ i. passes s e (getD runs i 0 + k)) → InColumns n (k + 1) (r + one)
-  columns-more n k r one C P =
-      let up : (k + 1) * n ≡ k * n + n = rw add-one (suc-mul k n) in
-      record {
-        most = omega (arith, up, C .most, P .most);
-        each = λ h.
-            let all : (r ≡ k * n) × (one ≡ n) = (omega (arith, up, C .most, P .most), omega (arith, up, C .most, P .most)) in
-            below-more (λ j. (i : ℕ) → i < n → passes s e (getD runs i 0 + j) ≡ true) k (C .each (all .0)) (P .each (all .1));
-      }
-
-  pub columns-all : (n size r : ℕ) → InColumns n size r → AllPassed s e runs n size r
-  columns-all n size r C =
-      record {
-        most = omega (arith, C .most, mul-comm n size);
-        each = λ h i j below lt. C .each (h ∙ mul-comm n size) j lt i below;
-      }
-
-  -- of the first k runs
-  pub record InRuns (size k r : ℕ) : Type 0 where
-    pub most : r ≤ k * size
-    pub each : r ≡ k * size → (i : ℕ) → i < k → (j : ℕ) → j < size → passes s e (getD runs i 0 + j) ≡ true
-
-  pub runs-none : (size : ℕ) → InRuns size 0 0
-  runs-none size = record { most = omega arith; each = λ h j lt. absurd (omega arith) }
-
-  pub runs-more : (size k r one d : ℕ) → InRuns size k r → d ≡ getD runs k 0 → Passed size one (λ j. passes s e (d + j)) → InRuns size (k + 1) (r + one)
-  runs-more size k r one d C is P =
-      let up : (k + 1) * size ≡ k * size + size = rw add-one (suc-mul k size) in
-      record {
-        most = omega (arith, up, C .most, P .most);
-        each = λ h.
-            let all : (r ≡ k * size) × (one ≡ size) = (omega (arith, up, C .most, P .most), omega (arith, up, C .most, P .most)) in
-            below-more (λ i. (j : ℕ) → j < size → passes s e (getD runs i 0 + j) ≡ true) k (C .each (all .0)) (λ j lt. rw is at (P .each (all .1) j lt));
-      }
-
-  pub runs-all : (n size r : ℕ) → InRuns size n r → AllPassed s e runs n size r
-  runs-all n size r C = record { most = C .most; each = λ h i j below lt. C .each h i below j lt }
-
--- not more pass than there are
+-- not more pass than there are, and where it is all of them, each does
 pub many-most : (n : ℕ) (p : ℕ → Bool) → howMany n p ≤ n
+many-most n p = omega (arith, sum-most 1 (λ k. pick (p k) 1 0) n (λ k lt. one-most (p k)), mul-one n)
+
+many-all : (n : ℕ) (p : ℕ → Bool) → howMany n p ≡ n → (i : ℕ) → i < n → p i ≡ true
+many-all n p e i lt = one-is (p i) (sum-full 1 (λ k. pick (p k) 1 0) n (λ k below. one-most (p k)) (e ∙ sym (mul-one n)) i lt)
+
+-- a sum in a loop: none yet, and one more
+pub sum-begins : (f : ℕ → ℕ) → 0 ≡ sumTo 0 f
 unfolding sumTo
-many-most zero p = omega arith
-many-most (suc n) p = omega (arith, many-most n p, one-most (p n))
+sum-begins f = refl
+
+pub sum-more : (n r one : ℕ) (f : ℕ → ℕ) → r ≡ sumTo n f → one ≡ f n → r + one ≡ sumTo (n + 1) f
+sum-more n r one f e is = rw (e, is) (sym (sum-next n f))
+
+-- the cells of runs that pass, counted run by run: not more than there are, and where it is all of them, each does
+module _ (s : List ℕ) (e : ℕ) (runs : List ℕ) (n size : ℕ) where
+  run-most : (i : ℕ) → i < n → runPassing s e (getD runs i 0) size ≤ size
+  run-most i lt = many-most size (λ j. passes s e (getD runs i 0 + j))
+
+  pub runs-most : runsPassing s e runs n size ≤ n * size
+  runs-most = sum-most size (λ i. runPassing s e (getD runs i 0) size) n run-most
+
+  runs-all : runsPassing s e runs n size ≡ n * size → (i j : ℕ) → i < n → j < size → passes s e (getD runs i 0 + j) ≡ true
+  runs-all all i j lt below =
+      many-all size (λ j. passes s e (getD runs i 0 + j)) (sum-full size (λ i. runPassing s e (getD runs i 0) size) n run-most all i lt) j below
+
+  -- so are those of the first k columns
+  pub columns-most : (k : ℕ) → sumTo k (columnPassing s e runs n) ≤ k * n
+  columns-most k = sum-most n (columnPassing s e runs n) k (λ j lt. many-most n (λ i. passes s e (getD runs i 0 + j)))
+
+  -- and all columns have as many
+  pub by-columns : sumTo size (columnPassing s e runs n) ≡ runsPassing s e runs n size
+  by-columns = sym (sum-swap n size (λ i j. pick (passes s e (getD runs i 0 + j)) 1 0))
 
 module _ (s : List ℕ) (e b : ℕ) where
   pub cell-none : AtCell s e b 0 0
@@ -157,14 +124,14 @@ module _ (s : List ℕ) (e b : ℕ) (first last runs : List ℕ) (n size : ℕ) 
         fits = λ i lt. omega (arith, A .fits i lt);
       }
 
-  pub box-passes : (looked : ℕ) → AllPassed s e runs n size looked → looked ≡ n * size → (cells : ℕ) → cells ≡ cellsOf s → AtCell s e b cells looked
+  pub box-passes : (looked : ℕ) → looked ≡ runsPassing s e runs n size → looked ≡ n * size → (cells : ℕ) → cells ≡ cellsOf s → AtCell s e b cells looked
   box-passes looked P all cells is = all-counted s e b pass looked cells (all ∙ runs-number) is
     where
       pass : (c : ℕ) → c < cellsOf s → follows s e b c ≡ true → passes s e c ≡ true
       pass c lt f =
           let x = A .all c lt (sym (B .same c) ∙ f) in
           let j : getD runs (x .0) 0 + (c - getD runs (x .0) 0) ≡ c = omega (arith, x .2) in
-          rw j at (P .each all (x .0) (c - getD runs (x .0) 0) (x .1) (omega (arith, x .2, x .3)))
+          rw j at (runs-all s e runs n size (sym P ∙ all) (x .0) (c - getD runs (x .0) 0) (x .1) (omega (arith, x .2, x .3)))
 
 -- before box b, with so many looked up and no refusal found: the definition goes on from there with that count. The search began with count
 pub record AtBox (s : List ℕ) (e count b total : ℕ) : Type 0 where

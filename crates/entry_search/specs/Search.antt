@@ -1,18 +1,18 @@
 -- What judging finds out once of an entry under an arrival box, and the parts of judging that single functions answer for.
 use Prim.Native.Nat.{ℕ, _+_, _*_, _≤_, _<_}
 use mathlib.Core.List.{List}
-use mathlib.Core.Bool.{Bool, true, false}
+use mathlib.Core.Bool.{Bool, false}
 use mathlib.Core.Path.{_≡_}
 use lib.Dec.{eqb}
 use lib.ListN.{length, getD}
 use Rattle.certificate.specs.declared.Report.{Report}
-use Rattle.certificate.specs.Loops.{loopFrom}
+use Rattle.certificate.specs.Loops.{sumTo, loopFrom}
 use Rattle.certificate.specs.Layout.{maxCells, linksOf, cellsOf, boxesOf, cellOf}
 use Rattle.network.specs.Network.{entryLimit}
 use Rattle.grid.specs.Successors.{imageLow, imageHigh, imageOver}
 use Rattle.grid.specs.Laws.{ImageOf}
 use Rattle.octets.specs.Tables.{Holds}
-use Rattle.successors.specs.Ranges.{Bounded, inRanges}
+use Rattle.successors.specs.Ranges.{Bounded, inRanges, howMany}
 use Rattle.judging.specs.EntryTests.{follows, successorFault, cellRound, boxRound, accepted}
 
 -- the image of entry e's cell under its signal and box b: low and high are its ends, over says which links exceed cap where they are not cut,
@@ -40,10 +40,17 @@ cellsFrom s e b d n = loopFrom (cellRound s e b) (boxesFrom s e (b + 1)) (cellsO
 unfoldable pub passes : List ℕ → ℕ → ℕ → Bool
 passes s e d = eqb (successorFault s e d 0 .number) 0
 
--- r of the indices below n pass: not more than there are, and where it is all of them, each passes
-pub record Passed (n r : ℕ) (p : ℕ → Bool) : Type 0 where
-  pub most : r ≤ n
-  pub each : r ≡ n → (i : ℕ) → i < n → p i ≡ true
+-- how many cells of a run pass for entry e: it starts at cell c
+abbrev pub runPassing : List ℕ → ℕ → ℕ → ℕ → ℕ
+runPassing s e c size = howMany size (λ j. passes s e (c + j))
+
+-- how many of n runs, which start where the list says, have a cell number j that passes
+abbrev pub columnPassing : List ℕ → ℕ → List ℕ → ℕ → ℕ → ℕ
+columnPassing s e runs n j = howMany n (λ i. passes s e (getD runs i 0 + j))
+
+-- how many of all their cells pass
+abbrev pub runsPassing : List ℕ → ℕ → List ℕ → ℕ → ℕ → ℕ
+runsPassing s e runs n size = sumTo n (λ i. runPassing s e (getD runs i 0) size)
 
 -- the runs that start at the first n elements of the list lie in so many cells
 pub record RunsFit (runs : List ℕ) (n size cells : ℕ) : Type 0 where
@@ -51,11 +58,6 @@ pub record RunsFit (runs : List ℕ) (n size cells : ℕ) : Type 0 where
   pub list-most : n ≤ maxCells
   pub most : n * size ≤ maxCells
   pub fits : (i : ℕ) → i < n → getD runs i 0 + size ≤ cells
-
--- r of their cells pass for entry e: not more than there are, and where it is all of them, each passes
-pub record AllPassed (s : List ℕ) (e : ℕ) (runs : List ℕ) (n size r : ℕ) : Type 0 where
-  pub most : r ≤ n * size
-  pub each : r ≡ n * size → (i j : ℕ) → i < n → j < size → passes s e (getD runs i 0 + j) ≡ true
 
 -- before cell d of box b, with so many successors of the box looked up and none refused: the search of the box goes on from there
 pub record AtCell (s : List ℕ) (e b d looked : ℕ) : Type 0 where

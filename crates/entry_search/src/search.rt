@@ -9,7 +9,7 @@ ghost use Rattle.judging.specs.EntryTests.{follows, successorFault};
 ghost use Rattle.judging.specs.Overflow.{entryOverflows};
 ghost use Rattle.entry_setup.specs.Tables.{TablesOf, EntryEnds, IsTask};
 ghost use Rattle.certificate.specs.Loops.{pick};
-ghost use Rattle.entry_search.specs.Search.{AtCell, BoxRanges, Passed, RunsFit, AllPassed, boxesFrom, passes};
+ghost use Rattle.entry_search.specs.Search.{AtCell, BoxRanges, RunsFit, boxesFrom, columnPassing, passes, runPassing, runsPassing};
 ghost use Rattle.certificate.specs.Layout.{maxBoxes, maxCells, linksOf};
 use crate::boxes;
 use cell_tables::digits as cells;
@@ -63,7 +63,7 @@ fn run_passed(
     size: usize,
 ) -> u32
     requires { ⌜ IsTask (now s) task × RanksOf (now s) (now ranks) × (first + size ≤ task .cells) ⌝ }
-    ensures { λ r. ⌜ Passed size r (λ j. passes (now (s .entry)) (task .entry) (first + j)) ⌝ }
+    ensures { λ r. ⌜ r ≡ runPassing (now (s .entry)) (task .entry) first size ⌝ }
 {
     let mut passed: u32 = 0;
     for j in 0..size {
@@ -82,7 +82,7 @@ fn column_passed(
     j: usize,
 ) -> u32
     requires { ⌜ IsTask (now s) task × RanksOf (now s) (now ranks) × (n ≤ maxCells) × (length (now runs) ≡ maxCells) × ((i : ℕ) → i < n → getD (now runs) i 0 + j < task .cells) ⌝ }
-    ensures { λ r. ⌜ Passed n r (λ i. passes (now (s .entry)) (task .entry) (getD (now (runs .entry)) i 0 + j)) ⌝ }
+    ensures { λ r. ⌜ r ≡ columnPassing (now (s .entry)) (task .entry) (now (runs .entry)) n j ⌝ }
 {
     let mut passed: u32 = 0;
     for i in 0..n {
@@ -101,7 +101,7 @@ fn short_runs(
     size: usize,
 ) -> u32
     requires { ⌜ IsTask (now s) task × RanksOf (now s) (now ranks) × RunsFit (now runs) n size (task .cells) ⌝ }
-    ensures { λ r. ⌜ AllPassed (now (s .entry)) (task .entry) (now (runs .entry)) n size r ⌝ }
+    ensures { λ r. ⌜ r ≡ runsPassing (now (s .entry)) (task .entry) (now (runs .entry)) n size ⌝ }
 {
     let mut passed: u32 = 0;
     for j in 0..size {
@@ -120,7 +120,7 @@ fn long_runs(
     size: usize,
 ) -> u32
     requires { ⌜ IsTask (now s) task × RanksOf (now s) (now ranks) × RunsFit (now runs) n size (task .cells) ⌝ }
-    ensures { λ r. ⌜ AllPassed (now (s .entry)) (task .entry) (now (runs .entry)) n size r ⌝ }
+    ensures { λ r. ⌜ r ≡ runsPassing (now (s .entry)) (task .entry) (now (runs .entry)) n size ⌝ }
 {
     let mut passed: u32 = 0;
     for i in 0..n {
@@ -142,7 +142,7 @@ fn runs_passed(
     size: usize,
 ) -> u32
     requires { ⌜ IsTask (now s) task × RanksOf (now s) (now ranks) × RunsFit (now runs) n size (task .cells) ⌝ }
-    ensures { λ r. ⌜ AllPassed (now (s .entry)) (task .entry) (now (runs .entry)) n size r ⌝ }
+    ensures { λ r. ⌜ r ≡ runsPassing (now (s .entry)) (task .entry) (now (runs .entry)) n size ⌝ }
 {
     if size < LONG_RUN {
         return short_runs(s, task, ranks, runs, n, size);

@@ -5,19 +5,14 @@ use mathlib.Core.Bool.{Bool, true, false}
 use mathlib.Core.Path.{_≡_, refl, sym}
 use mathlib.Core.Logic.{⊎-elim}
 use native.Mathlib.Nat.{add-mul, eq-or-lt-of-le}
-use native.Mathlib.Numerals.{add-one}
 use native.Mathlib.Omega.{arith}
 use borrow.Author.Tests.{eqb-true, eqb-false}
 use lib.Dec.{eqb}
 use lib.ListN.{length, getD, set, replicate, length-set, getD-replicate}
 use lib.Seq.{getD-set-same, getD-set-other}
 use Rattle.certificate.specs.Loops.{pick, sumTo}
+use Rattle.certificate.proofs.Loops.{sum-next}
 use Rattle.screening.specs.NetworkParts.{into}
-
--- one term more
-pub sum-next : (n : ℕ) (f : ℕ → ℕ) → sumTo (n + 1) f ≡ sumTo n f + f n
-unfolding sumTo
-sum-next n f = rw add-one
 
 -- a sum goes on unchanged where the terms are 0
 pub sum-flat : (m n : ℕ) (f : ℕ → ℕ) → m ≤ n → ((t : ℕ) → m ≤ t → t < n → f t ≡ 0) → sumTo n f ≡ sumTo m f

@@ -4,19 +4,19 @@ use mathlib.Core.Path.{_≡_, _∙_}
 use native.Mathlib.Omega.{arith}
 use borrow.Author.Needs.{needs}
 use lib.ListN.{getD}
-use Rattle.entry_search.specs.Search.{Passed, passes}
-use Rattle.entry_search.proofs.InBoxes.{passed-none, passed-more}
+use Rattle.entry_search.specs.Search.{passes, columnPassing}
+use Rattle.entry_search.proofs.InBoxes.{many-most, sum-begins, sum-more}
 use Rattle.entry_search.proofs.search.column_passed.Statement.{statement}
 use Rattle.entry_search.proofs.search.column_passed.Tie as tie
 
 abbrev Inv-loop : tie.InvT-loop
-Inv-loop s task ranks runs n j passed₀ i₀ passed i = Passed i passed (λ k. passes s (task .entry) (getD runs k 0 + j)) × (i ≤ n)
+Inv-loop s task ranks runs n j passed₀ i₀ passed i = (passed ≡ columnPassing s (task .entry) runs i j) × (i ≤ n)
 
 abbrev μ-loop : tie.MeasureT-loop
 μ-loop s task ranks runs n j passed₀ i₀ passed i = n - i
 
 loop-holds : tie.Need-loop-holds Inv-loop μ-loop
-loop-holds c = (passed-none _, omega arith)
+loop-holds c = (sum-begins _, omega arith)
 
 mul-wide-pair : tie.Need-mul-wide-pair Inv-loop μ-loop
 mul-wide-pair c = omega arith
@@ -31,8 +31,8 @@ wide-pair-requires c κs = search needs
 below : (c : tie.After-wide-pair Inv-loop μ-loop) → c .wide-pair .result + c .before .before .before .before .before .before .args .j < c .before .before .before .before .before .before .args .task .cells
 below c = let l = c .before .before .before .loop in omega (arith, c .wide-pair .ensures .0, c .before .before .before .before .before .before .pre .4 (l .i) (omega arith))
 
-next : (c : tie.After-passing Inv-loop μ-loop) → Passed (c .before .before .before .before .loop .i + 1) (c .before .before .before .before .loop .passed + c .passing .result) (λ k. passes (c .before .before .before .before .before .before .before .args .s .now) (c .before .before .before .before .before .before .before .args .task .entry) (getD (c .before .before .before .before .before .before .before .args .runs .now) k 0 + c .before .before .before .before .before .before .before .args .j))
-next c = passed-more _ _ _ _ (c .before .before .before .before .loop .inv .0) (c .passing .ensures ∙ rw (c .before .wide-pair .ensures .0))
+next : (c : tie.After-passing Inv-loop μ-loop) → c .before .before .before .before .loop .passed + c .passing .result ≡ columnPassing (c .before .before .before .before .before .before .before .args .s .now) (c .before .before .before .before .before .before .before .args .task .entry) (c .before .before .before .before .before .before .before .args .runs .now) (c .before .before .before .before .loop .i + 1) (c .before .before .before .before .before .before .before .args .j)
+next c = sum-more _ _ _ _ (c .before .before .before .before .loop .inv .0) (c .passing .ensures ∙ rw (c .before .wide-pair .ensures .0))
 
 add-passing : tie.Need-add-passing Inv-loop μ-loop
 add-passing c = let a = c .before .before .before .before .before .before in omega (arith, below c, a .pre .0 .cells-most)
@@ -41,7 +41,7 @@ passing-requires : tie.Need-passing-requires Inv-loop μ-loop
 passing-requires c κs = let a = c .before .before .before .before .before .before in (a .pre .0, a .pre .1, below c)
 
 add-passed : tie.Need-add-passed Inv-loop μ-loop
-add-passed c = omega (arith, next c .most, c .before .before .before .before .before .before .before .pre .2)
+add-passed c = omega (arith, next c, many-most (c .before .before .before .before .loop .i + 1) (λ k. passes (c .before .before .before .before .before .before .before .args .s .now) (c .before .before .before .before .before .before .before .args .task .entry) (getD (c .before .before .before .before .before .before .before .args .runs .now) k 0 + c .before .before .before .before .before .before .before .args .j)), c .before .before .before .before .before .before .before .pre .2)
 
 add-i : tie.Need-add-i Inv-loop μ-loop
 add-i c = omega arith
