@@ -1,5 +1,5 @@
-// Only the cells whose intervals lie in the ranges first .. last of every link are visited. They come in runs of consecutive cells:
-// the intervals of the range of the run link, and all those of the links after it.
+// Which cells lie in the ranges: their intervals lie in the range first .. last of every link. They come in runs of consecutive cells: the
+// intervals of the range of the run link, and all those of the links after it.
 ghost use mathlib.Core.Path.{_≡_};
 ghost use Prim.Native.Nat.{_<_};
 ghost use Rattle.certificate.specs.Layout.{linksOf, cellsOf};
