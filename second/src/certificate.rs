@@ -105,7 +105,7 @@ pub struct Arrival {
     pub high: u16,
 }
 
-/// What the policy does in a cell and mode.
+/// What the policy does in a cell and mode, and the rank there. The cabinet sees no rank: `cabinet::CabinetEntry`.
 #[derive(Clone, Debug, PartialEq, Eq)]
 pub struct Entry {
     pub cell: u16,

@@ -3,6 +3,7 @@
 //! Every step takes the plainest way: images by all corners of a cell, successors by testing every cell.
 
 pub mod amount;
+pub mod cabinet;
 pub mod cases;
 pub mod certificate;
 pub mod conditions;
@@ -18,6 +19,7 @@ pub mod report;
 pub mod state;
 pub mod text;
 
+pub use cabinet::Cabinet;
 pub use certificate::Certificate;
 pub use judging::judge;
 pub use listing::listing;

@@ -1,10 +1,14 @@
 //! Reading a certificate from bytes: refusals 1 to 9 and 22 to 24.
 
+mod entries;
 mod modes;
 mod reader;
 
-use crate::certificate::{Arrival, Certificate, Entry, Kind, Link, Turn, MOST_AMOUNT, MOST_CELLS};
+pub use entries::cabinet_entries;
+
+use crate::certificate::{Arrival, Certificate, Kind, Link, Turn, MOST_AMOUNT, MOST_CELLS};
 use crate::report::Report;
+use entries::read_entry;
 use modes::read_modes;
 use reader::{wide, Reader};
 
@@ -185,36 +189,6 @@ fn read_arrivals(reader: &mut Reader, links: usize) -> Result<Vec<Arrival>, Repo
         arrivals.push(Arrival { low, high });
     }
     Ok(arrivals)
-}
-
-/// Reads an entry; the certificate holds the entries before it. 9 is for names that do not exist, 22 for a pair that is
-/// not above the one before, 23 for a next mode that remembers another signal than the entry's, 24 for a next mode with
-/// another goal number than its rank asks for.
-fn read_entry(
-    reader: &mut Reader,
-    certificate: &Certificate,
-    cells: usize,
-) -> Result<Entry, Report> {
-    let record = reader.record(b"EN", 7)?;
-    let entry = Entry {
-        cell: record.wide(0),
-        mode: record.byte(2),
-        signal: record.byte(3),
-        next: record.byte(4),
-        rank: record.wide(5),
-    };
-    record.must(9, usize::from(entry.cell) < cells)?;
-    record.must(9, entry.mode < certificate.modes)?;
-    record.must(9, usize::from(entry.signal) < certificate.signals.len())?;
-    record.must(9, entry.next < certificate.modes)?;
-    if let Some(before) = certificate.entries.last() {
-        record.must(22, (before.cell, before.mode) < (entry.cell, entry.mode))?;
-    }
-    if let Some(&remembered) = certificate.memory.get(usize::from(entry.next)) {
-        record.must(23, remembered == entry.signal)?;
-    }
-    record.must(24, certificate.keeps_turn(&entry))?;
-    Ok(entry)
 }
 
 /// ZZ, and nothing after it.

@@ -9,7 +9,7 @@ use second::flow::{next_queues, FINER};
 use second::grid::{cell_of, cells};
 use second::image::image;
 use second::reading::read;
-use second::{judge, listing, Certificate, Report, State, Verdict};
+use second::{judge, listing, Cabinet, Certificate, Report, State, Verdict};
 
 fn report(number: u32, a: u64, b: u64, count: u64) -> Report {
     Report {
@@ -142,7 +142,7 @@ fn p9_pull_sum() {
 
 #[test]
 fn p10_query_at_scale_2() {
-    let l = certificate(L_TEXT);
+    let l = Cabinet::of(&L).unwrap();
     assert_eq!(cell_of(&l, &[9], 2), Some(0));
     assert_eq!(cell_of(&l, &[10], 2), Some(1));
     assert_eq!(cell_of(&l, &[20], 2), Some(2));

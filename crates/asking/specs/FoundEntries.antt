@@ -6,7 +6,8 @@ use lib.ListN.{length, take}
 use lib.Dec.{leb, eqb}
 use Rattle.certificate.specs.declared.Report.{Report}
 use Rattle.certificate.specs.Checks.{refusal, fine, need}
-use Rattle.certificate.specs.Layout.{greenByteOf, signalOf, nextModeOf}
+use Rattle.certificate.specs.Layout.{greenByteOf}
+use Rattle.certificate.specs.Entries.{cabinetEntryOf}
 use Rattle.network.specs.Conditions.{screeningOf}
 use Rattle.judging.specs.Lookup.{entryFor}
 use Rattle.asking.specs.declared.Found.{Found}
@@ -16,14 +17,14 @@ use Rattle.judging.specs.Asking.{isProper, cellAsked, cellFault}
 unfoldable pub storedFault : List ℕ → ℕ → Report
 storedFault bytes n = need (leb n (length bytes)) (refusal 18 0) (screeningOf (take n bytes))
 
--- what entry e says: its signal, that signal's green byte, and the next mode
+-- what entry e says by the cabinet's reading, which skips the rank: its signal, that signal's green byte, and the next mode
 abbrev pub foundAt : List ℕ → ℕ → Found
 foundAt s e =
     record {
       report = fine;
-      signal = signalOf s e;
-      green = greenByteOf s (signalOf s e);
-      mode = nextModeOf s e;
+      signal = cabinetEntryOf s e .signal;
+      green = greenByteOf s (cabinetEntryOf s e .signal);
+      mode = cabinetEntryOf s e .«next_mode»;
     }
 
 -- a refusal: signal and green byte 0, and the mode as it was

@@ -48,16 +48,15 @@ fn found_at(s: &[u8], layout: reading::Layout, e: usize) -> Found
     requires { ⌜ LaidOut (now s) layout × (e ≤ maxEntries) ⌝ }
     ensures { λ r. ⌜ r ≡ foundAt (now (s .entry)) e ⌝ }
 {
-    let start = layout.entries_start;
-    let signal = entries::signal_of(s, start, e);
+    let entry = entries::cabinet_entry(s, layout.entries_start, e);
+    let signal = entry.signal;
     let green = signals::green_byte_of(s, layout.signals_start, signal);
-    let mode = entries::next_mode_of(s, start, e);
     let report = octets::accept();
     Found {
         report,
         signal: signal as u8,
         green: green as u8,
-        mode: mode as u8,
+        mode: entry.next_mode as u8,
     }
 }
 

@@ -26,3 +26,5 @@ pub mod Refusals
 pub mod Standing
 pub mod Numbers
 pub mod Places
+pub mod Front
+pub mod Ranks

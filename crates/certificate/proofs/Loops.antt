@@ -137,6 +137,16 @@ find-least n p k e = lt-or (leb (find n p) k) refl
     lt-or true q = leb-true _ _ q
     lt-or false q = absurd (false≢true (sym (found n p .before k (omega arith) (leb-false _ _ q)) ∙ e))
 
+-- two searches whose tests agree
+first-of-same : (p q : ℕ → Bool) (k i : ℕ) → ((j : ℕ) → i ≤ j → j < i + k → p j ≡ q j) → firstOfThese p k i ≡ firstOfThese q k i
+unfolding firstOfThese
+first-of-same p q zero i h = refl
+first-of-same p q (suc k) i h = rw (h i (omega arith) (omega arith), first-of-same p q k (i + 1) (λ j a b. h j (omega arith) (omega arith)))
+
+pub find-same : (n m : ℕ) (p q : ℕ → Bool) → n ≡ m → ((j : ℕ) → j < n → p j ≡ q j) → find n p ≡ find m q
+unfolding findFrom
+find-same n m p q e h = rw (← e) (first-of-same p q (n - 0) 0 (λ j a b. h j (omega arith)))
+
 -- the greatest of numbers that agree
 pub greatest-same : (n : ℕ) (f g : ℕ → ℕ) → ((k : ℕ) → k < n → f k ≡ g k) → greatestTo n f ≡ greatestTo n g
 unfolding greatestTo

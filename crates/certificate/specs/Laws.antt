@@ -1,19 +1,21 @@
 -- What is proved of reading (proofs/ of this crate). Statements only.
 use Prim.Native.Nat.{ℕ, _+_, _*_, _^_, _≤_, _<_}
 use mathlib.Core.Bool.{true, false}
-use mathlib.Core.List.{List}
+use mathlib.Core.List.{List, [], _∷_, _++_}
 use mathlib.Core.Path.{_≡_}
 use mathlib.Core.Logic.{_↔_, _⊎_}
 use lib.ListN.{length, take}
-use Rattle.certificate.specs.Octets.{bitOf}
+use Rattle.certificate.specs.Octets.{byteAt, bitOf}
 use Rattle.certificate.specs.Loops.{pick, sumTo}
 use Rattle.certificate.specs.declared.Report.{Report}
-use Rattle.certificate.specs.Layout.{maxLinks, maxTurns, maxSignals, maxModes, maxBoxes, maxEntries, maxCap, maxShare, maxPull, maxPullSum, maxArrival, maxIntervals, maxGoalNumber, maxScale, maxLength, headerSize, plainLinkSize, plainModeSize, endSize, signalsOf, remembers, takesTurns, linkAt, flowOf, goalOf, startFlowOf, signalAt, modeSize, goalNumberOf, goalFor, greatestGoal, nextGoal, modesOf, gridStart, cellsOf, maxCells, entryAt, endAt}
+use Rattle.certificate.specs.declared.CabinetEntry.{CabinetEntry}
+use Rattle.certificate.specs.Layout.{maxLinks, maxTurns, maxSignals, maxModes, maxBoxes, maxEntries, maxCap, maxShare, maxPull, maxPullSum, maxArrival, maxIntervals, maxGoalNumber, maxScale, maxLength, headerSize, plainLinkSize, plainModeSize, endSize, signalsOf, entriesOf, remembers, takesTurns, linkAt, flowOf, goalOf, startFlowOf, signalAt, modeSize, goalNumberOf, goalFor, greatestGoal, nextGoal, modesOf, gridStart, cellsOf, maxCells, entriesStart, entryAt, endAt}
 use Rattle.certificate.specs.Records.{passesOn, turnsOn}
 use Rattle.certificate.specs.Reading.{readingOf}
 use Rattle.certificate.specs.Checks.{result, fine}
 use Rattle.certificate.specs.Facts.{Mark, Readable}
-use Rattle.certificate.specs.Fields.{Stand, certificateFields}
+use Rattle.certificate.specs.Fields.{Field, byte, u16, Stand, certificateFields}
+use Rattle.certificate.specs.Entries.{cabinetEntryOf, benchEntryOf, DifferInRanks}
 use Rattle.certificate.specs.Due.{Kind, HD, LK, TN, SG, MD, GR, AR, EN, ZZ, fieldNumber, recordAt, Due, TooShort, WrongMark, BrokenLine, MissingName, WrongOrder, OtherSignal, OtherGoal}
 
 -- the limits of the format, in the numbers of documents 01 and 02; the greatest length is what they come to
@@ -187,3 +189,35 @@ pub record Refusals (answer : List ℕ → Report) : Type 0 where
 
 abbrev pub ReadingRefuses : Type 0
 ReadingRefuses = Refusals readingOf
+
+-- Two readings of an EN record, and certificates that differ only in ranks.
+
+-- the fields that the cabinet reads, as they stand in a record
+abbrev pub shownFields : CabinetEntry → List Field
+shownFields r = u16 (r .cell) ∷ byte (r .mode) ∷ byte (r .signal) ∷ byte (r .«next_mode») ∷ []
+
+-- the cabinet's reading is bytes 2 to 6 of the record, field after field, and no other; the bench's is bytes 2 to 8, with the rank at the end
+pub record TwoReadings (s : List ℕ) (e : ℕ) : Type 0 where
+  pub cabinet : Stand s (entryAt s e + 2) (shownFields (cabinetEntryOf s e)) (entryAt s e + 7)
+  pub bench : Stand s (entryAt s e + 2) (shownFields (benchEntryOf s e .shown) ++ u16 (benchEntryOf s e .rank) ∷ []) (entryAt s e + 9)
+
+abbrev pub ReadingsStand : Type 0
+ReadingsStand = (s : List ℕ) (e : ℕ) → TwoReadings s e
+
+-- the same bytes but for ranks, record by record: those before the first entry, the first seven of each entry, and those from ZZ on
+pub record SameButRanks (s t : List ℕ) : Type 0 where
+  pub size : length s ≡ length t
+  pub front : (o : ℕ) → o < entriesStart s → byteAt s o ≡ byteAt t o
+  pub entry : (e i : ℕ) → e < entriesOf s → i < 7 → byteAt s (entryAt s e + i) ≡ byteAt t (entryAt s e + i)
+  pub back : (o : ℕ) → endAt s ≤ o → byteAt s o ≡ byteAt t o
+
+abbrev pub DifferIsPlain : Type 0
+DifferIsPlain = (s t : List ℕ) → DifferInRanks s t ↔ SameButRanks s t
+
+-- the cabinet's reading of every entry is the same in certificates that differ only in ranks
+abbrev pub CabinetReadsNoRank : Type 0
+CabinetReadsNoRank = (s t : List ℕ) → Readable s → DifferInRanks s t → (e : ℕ) → cabinetEntryOf s e ≡ cabinetEntryOf t e
+
+-- the ranks of t stand where those of s do
+abbrev pub RanksBack : Type 0
+RanksBack = (s t : List ℕ) → Readable s → DifferInRanks s t → DifferInRanks t s

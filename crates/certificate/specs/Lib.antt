@@ -8,4 +8,5 @@ pub mod Reading
 pub mod Facts
 pub mod Due
 pub mod Fields
+pub mod Entries
 pub mod Laws

@@ -10,3 +10,17 @@ pub struct Report {
     pub b: u32,
     pub count: u32,
 }
+
+// What the street cabinet reads of an entry of the policy: all but its rank.
+pub struct CabinetEntry {
+    pub cell: usize,
+    pub mode: usize,
+    pub signal: usize,
+    pub next_mode: usize,
+}
+
+// What the bench reads of it: the rank as well.
+pub struct BenchEntry {
+    pub shown: CabinetEntry,
+    pub rank: usize,
+}

@@ -5,7 +5,8 @@ use mathlib.Core.Bool.{cond}
 use lib.Dec.{eqb}
 use Rattle.certificate.specs.declared.Report.{Report}
 use Rattle.certificate.specs.Checks.{refusal, fine, need}
-use Rattle.certificate.specs.Layout.{greenByteOf, signalOf, nextModeOf}
+use Rattle.certificate.specs.Layout.{greenByteOf}
+use Rattle.certificate.specs.Entries.{cabinetEntryOf}
 use Rattle.judging.specs.Lookup.{entryFor}
 use Rattle.controller.specs.declared.Controller.{Controller}
 use Rattle.controller.specs.declared.Shown.{Shown}
@@ -20,14 +21,14 @@ queryFault c queues scale =
 abbrev pub entryAsked : Controller → List ℕ → ℕ → ℕ
 entryAsked c queues scale = entryFor (stored c) (cellAsked (stored c) queues scale) (c .mode)
 
--- entry e's signal, its green byte, and the state in its next mode
+-- entry e's signal, its green byte, and the state in its next mode, by the cabinet's reading, which skips the rank
 abbrev pub showing : Controller → ℕ → Shown
 showing c e =
     record {
       report = fine;
-      signal = signalOf (stored c) e;
-      green = greenByteOf (stored c) (signalOf (stored c) e);
-      state = inMode c (nextModeOf (stored c) e);
+      signal = cabinetEntryOf (stored c) e .signal;
+      green = greenByteOf (stored c) (cabinetEntryOf (stored c) e .signal);
+      state = inMode c (cabinetEntryOf (stored c) e .«next_mode»);
     }
 
 -- a refusal shows signal and green byte 0 and leaves the state as it was

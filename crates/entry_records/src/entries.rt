@@ -3,7 +3,10 @@ ghost use mathlib.Core.Path.{_≡_};
 ghost use Prim.Native.Nat.{_+_, _*_, _<_, _≤_};
 ghost use Rattle.certificate.specs.Octets.{byteAt, u16At};
 ghost use Rattle.certificate.specs.Layout.{entriesStart, entryAt, entrySize, cellOf, modeOf, signalOf, nextModeOf, rankOf};
+ghost use Rattle.certificate.specs.Entries.{cabinetEntryOf, benchEntryOf};
 ghost use Rattle.octets.specs.Bounds.{startBound};
+use certificate::BenchEntry;
+use certificate::CabinetEntry;
 use certificate::limits;
 
 // Where the record of entry e stands.
@@ -62,4 +65,29 @@ pub fn rank_of(s: &[u8], start: usize, e: usize) -> usize
     ensures { λ r. ⌜ (r ≡ rankOf (now (s .entry)) e) × (r < 65536) ⌝ }
 {
     entry_u16(s, start, e, 7)
+}
+
+// The cabinet's reading of entry e: all but its rank.
+pub fn cabinet_entry(s: &[u8], start: usize, e: usize) -> CabinetEntry
+    requires { ⌜ (e < 65536) × (start ≤ startBound) × (start ≡ entriesStart (now s)) ⌝ }
+    ensures { λ r. ⌜ (r ≡ cabinetEntryOf (now (s .entry)) e) × (r .cell < 65536) × (r .mode < 256) × (r .signal < 256) × (r .«next_mode» < 256) ⌝ }
+{
+    CabinetEntry {
+        cell: cell_of(s, start, e),
+        mode: mode_of(s, start, e),
+        signal: signal_of(s, start, e),
+        next_mode: next_mode_of(s, start, e),
+    }
+}
+
+// The bench's: the rank as well.
+pub fn bench_entry(s: &[u8], start: usize, e: usize) -> BenchEntry
+    requires { ⌜ (e < 65536) × (start ≤ startBound) × (start ≡ entriesStart (now s)) ⌝ }
+    ensures { λ r. ⌜ (r ≡ benchEntryOf (now (s .entry)) e) × (r .shown .cell < 65536) × (r .shown .mode < 256) × (r .shown .signal < 256) × (r .shown .«next_mode» < 256) × (r .rank < 65536) ⌝ }
+{
+    let shown = cabinet_entry(s, start, e);
+    BenchEntry {
+        shown,
+        rank: rank_of(s, start, e),
+    }
 }

@@ -5,3 +5,4 @@ pub mod Intervals
 pub mod Images
 pub mod Meets
 pub mod Successors
+pub mod Alike

@@ -11,10 +11,13 @@ pub fn entry_numbers(s: &[u8], start: usize, e: usize) -> [u32; 5]
     requires { ⌜ (e ≤ maxEntries) × (start ≤ startBound) × (start ≡ entriesStart (now s)) ⌝ }
     ensures { λ r. ⌜ r ≡ entryNumbers (now (s .entry)) e ⌝ }
 {
-    let cell = entries::cell_of(s, start, e) as u32;
-    let mode = entries::mode_of(s, start, e) as u32;
-    let signal = entries::signal_of(s, start, e) as u32;
-    let next = entries::next_mode_of(s, start, e) as u32;
-    let rank = entries::rank_of(s, start, e) as u32;
-    [cell, mode, signal, next, rank]
+    let entry = entries::bench_entry(s, start, e);
+    let shown = entry.shown;
+    [
+        shown.cell as u32,
+        shown.mode as u32,
+        shown.signal as u32,
+        shown.next_mode as u32,
+        entry.rank as u32,
+    ]
 }

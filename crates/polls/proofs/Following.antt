@@ -104,7 +104,7 @@ poll-is-query c p h g = record { every = every; some = (edges s R d exists, (1, 
 
 -- Calls that follow one another.
 
-call-keeps : (c : Controller) (k : Call) → callOf c k .state ≡ inMode c (callOf c k .state .mode)
+pub call-keeps : (c : Controller) (k : Call) → callOf c k .state ≡ inMode c (callOf c k .state .mode)
 unfolding callOf
 call-keeps c (query q) = query-keeps c (q .queues) (q .scale)
 call-keeps c (poll p) = poll-keeps c p

@@ -7,6 +7,7 @@ use mathlib.Core.Path.{_≡_}
 use lib.ListN.{length, getD}
 use Rattle.certificate.specs.Checks.{refusal, fine}
 use Rattle.certificate.specs.Layout.{capOf}
+use Rattle.certificate.specs.Entries.{DifferInRanks}
 use Rattle.judging.specs.Verdict.{verdictOf}
 use Rattle.judging.specs.Asking.{cellAsked, Proper}
 use Rattle.runs.specs.Fractions.{Fraction}
@@ -128,6 +129,28 @@ abbrev pub CallsRoundTripWrites : Type 0
 CallsRoundTripWrites =
     (c : Controller) (s : List ℕ) (ks : List Call) (buffer : List ℕ) (start : ℕ) → verdictOf s .number ≡ 0
     → start + length s ≤ length buffer → writeReport (afterCalls (loadOf c s .state) ks) buffer start .number ≡ 0
+
+-- Certificates that differ only in ranks (document 02, 7/14).
+
+-- two answers are the same to the cabinet: number, places and count, signal, green byte, and the mode afterwards. That is all of an answer but the
+-- stored bytes, which have the ranks
+pub record SameToCabinet (one other : Shown) : Type 0 where
+  pub report : one .report ≡ other .report
+  pub signal : one .signal ≡ other .signal
+  pub green : one .green ≡ other .green
+  pub mode : one .state .mode ≡ other .state .mode
+
+-- two states are alike to the cabinet: the same mode, and the same answer to every query and every poll
+pub record AlikeToCabinet (c d : Controller) : Type 0 where
+  pub mode : c .mode ≡ d .mode
+  pub answer : (k : Call) → SameToCabinet (callOf c k) (callOf d k)
+
+-- two accepted certificates that differ only in ranks, loaded into any two states: the states are alike to the cabinet after the loads, and after
+-- every list of queries and polls since
+abbrev pub RanksUnseen : Type 0
+RanksUnseen =
+    (c d : Controller) (s t : List ℕ) (ks : List Call) → verdictOf s .number ≡ 0 → verdictOf t .number ≡ 0 → DifferInRanks s t
+    → AlikeToCabinet (afterCalls (loadOf c s .state) ks) (afterCalls (loadOf d t .state) ks)
 
 -- Polls beside a run: both look up the same entry, so a poll shows the signal that the run's next step goes by.
 

@@ -24,7 +24,7 @@ pub enum Kinds {
 }
 
 impl Kinds {
-    fn draw(self, numbers: &mut Numbers) -> Kind {
+    pub fn draw(self, numbers: &mut Numbers) -> Kind {
         match self {
             Kinds::Only(kind) => kind,
             Kinds::Both => numbers.pick(&[Kind::Hd, Kind::H2]),

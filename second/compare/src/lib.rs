@@ -6,6 +6,7 @@ pub mod fast;
 pub mod generate;
 pub mod library;
 pub mod numbers;
+pub mod pairs;
 pub mod peer;
 pub mod readings;
 pub mod roadside;

@@ -2,12 +2,15 @@
 
 use compare::bench::{self, bench, once, Row};
 use compare::differential::{differential, shown, Kinds, Plan};
+use compare::pairs::{self, pairs};
 use compare::readings::{readings, Extent};
 use second::certificate::Kind;
 use std::process::ExitCode;
+use std::str::FromStr;
 
 const USAGE: &str = "\
 usage: compare differential --seed S --loads N --queries M --polls P [--kind hd|h2|h3|both|all]
+       compare pairs --seed S --pairs N --calls M [--kind hd|h2|h3|both|all]
        compare reading --all|--part
        compare bench [--part]
        compare once CALL CERTIFICATE [N]
@@ -22,6 +25,10 @@ fn main() -> ExitCode {
     match words[..] {
         ["differential", ref options @ ..] => match plan(options) {
             Some(plan) => run_differential(&plan),
+            None => usage(),
+        },
+        ["pairs", ref options @ ..] => match pair_plan(options) {
+            Some(plan) => run_pairs(&plan),
             None => usage(),
         },
         ["reading", "--all"] => run_readings(Extent::All),
@@ -42,30 +49,54 @@ fn usage() -> ExitCode {
     ExitCode::from(2)
 }
 
+/// The word behind an option.
+fn word<'a>(options: &[&'a str], name: &str) -> Option<&'a str> {
+    let at = options.iter().position(|&option| option == name)?;
+    options.get(at + 1).copied()
+}
+
+/// The number behind an option.
+fn number<T: FromStr>(options: &[&str], name: &str) -> Option<T> {
+    word(options, name)?.parse().ok()
+}
+
+/// The kinds behind `--kind`, and how many words are there for it.
+fn kinds(options: &[&str]) -> Option<(Kinds, usize)> {
+    let kinds = match word(options, "--kind") {
+        Some("hd") => Kinds::Only(Kind::Hd),
+        Some("h2") => Kinds::Only(Kind::H2),
+        Some("h3") => Kinds::Only(Kind::H3),
+        Some("both") => Kinds::Both,
+        Some("all") => Kinds::All,
+        Some(_) => return None,
+        None => return Some((Kinds::All, 0)),
+    };
+    Some((kinds, 2))
+}
+
 /// `--seed S --loads N --queries M --polls P`, and `--kind K` or not, in any order.
 fn plan(options: &[&str]) -> Option<Plan> {
-    let word = |name: &str| {
-        let at = options.iter().position(|&option| option == name)?;
-        options.get(at + 1)
-    };
-    let number = |name: &str| word(name)?.parse().ok();
-    let (kinds, size) = match word("--kind") {
-        Some(&"hd") => (Kinds::Only(Kind::Hd), 10),
-        Some(&"h2") => (Kinds::Only(Kind::H2), 10),
-        Some(&"h3") => (Kinds::Only(Kind::H3), 10),
-        Some(&"both") => (Kinds::Both, 10),
-        Some(&"all") => (Kinds::All, 10),
-        Some(_) => return None,
-        None => (Kinds::All, 8),
-    };
+    let (kinds, size) = kinds(options)?;
     let plan = Plan {
-        seed: number("--seed")?,
-        loads: number("--loads")?,
-        queries: number("--queries")?,
-        polls: number("--polls")?,
+        seed: number(options, "--seed")?,
+        loads: number(options, "--loads")?,
+        queries: number(options, "--queries")?,
+        polls: number(options, "--polls")?,
         kinds,
     };
-    (options.len() == size && plan.loads > 0).then_some(plan)
+    (options.len() == 8 + size && plan.loads > 0).then_some(plan)
+}
+
+/// `--seed S --pairs N --calls M`, and `--kind K` or not, in any order.
+fn pair_plan(options: &[&str]) -> Option<pairs::Plan> {
+    let (kinds, size) = kinds(options)?;
+    let plan = pairs::Plan {
+        seed: number(options, "--seed")?,
+        pairs: number(options, "--pairs")?,
+        calls: number(options, "--calls")?,
+        kinds,
+    };
+    (options.len() == 6 + size && plan.pairs > 0).then_some(plan)
 }
 
 fn run_differential(plan: &Plan) -> ExitCode {
@@ -76,6 +107,19 @@ fn run_differential(plan: &Plan) -> ExitCode {
         }
         Err(found) => {
             print!("{}", shown(plan.seed, &found));
+            ExitCode::FAILURE
+        }
+    }
+}
+
+fn run_pairs(plan: &pairs::Plan) -> ExitCode {
+    match pairs(plan) {
+        Ok(tally) => {
+            println!("{tally}, 0 differences");
+            ExitCode::SUCCESS
+        }
+        Err(found) => {
+            print!("{}", pairs::shown(plan.seed, &found));
             ExitCode::FAILURE
         }
     }

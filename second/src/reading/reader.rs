@@ -3,6 +3,9 @@
 use crate::certificate::Kind;
 use crate::report::Report;
 
+/// Bytes of a mark.
+pub const MARK: usize = 2;
+
 /// Bytes, and the offset of the next record.
 pub struct Reader<'a> {
     bytes: &'a [u8],
@@ -11,7 +14,12 @@ pub struct Reader<'a> {
 
 impl<'a> Reader<'a> {
     pub fn of(bytes: &'a [u8]) -> Reader<'a> {
-        Reader { bytes, offset: 0 }
+        Reader::at(bytes, 0)
+    }
+
+    /// From the record at this offset on, which is not beyond the end.
+    pub fn at(bytes: &'a [u8], offset: usize) -> Reader<'a> {
+        Reader { bytes, offset }
     }
 
     /// Takes `size` bytes for the record that starts at `start`.
@@ -27,7 +35,7 @@ impl<'a> Reader<'a> {
     /// Takes a record: mark present, mark right, record whole. `size` counts the bytes after the mark.
     pub fn record(&mut self, mark: &[u8; 2], size: usize) -> Result<Record<'a>, Report> {
         let offset = self.offset;
-        if self.take(offset, 2)? != mark {
+        if self.take(offset, MARK)? != mark {
             return Err(Report::at(2, offset));
         }
         let fields = self.take(offset, size)?;
@@ -37,7 +45,7 @@ impl<'a> Reader<'a> {
     /// Takes the first record, whose mark tells the kind.
     pub fn record_of_kind(&mut self, size: usize) -> Result<(Record<'a>, Kind), Report> {
         let offset = self.offset;
-        let mark = self.take(offset, 2)?;
+        let mark = self.take(offset, MARK)?;
         let kind = Kind::ALL.into_iter().find(|kind| kind.mark() == mark);
         let kind = kind.ok_or(Report::at(2, offset))?;
         let fields = self.take(offset, size)?;
