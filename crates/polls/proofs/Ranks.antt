@@ -9,7 +9,7 @@ use lib.Dec.{eqb, leb}
 use lib.Ieee.Positive.{num, den}
 use Rattle.certificate.specs.declared.Report.{Report}
 use Rattle.certificate.specs.Loops.{every}
-use Rattle.certificate.specs.Checks.{firstBad}
+use Rattle.certificate.specs.Checks.{refusal, need, firstBad}
 use Rattle.certificate.specs.Layout.{linksOf, capOf, greenByteOf, entriesOf, signalOf, nextModeOf}
 use Rattle.certificate.specs.Facts.{Readable}
 use Rattle.certificate.specs.Entries.{DifferInRanks}
@@ -22,16 +22,17 @@ use Rattle.grid.proofs.Numbers.{number-same}
 use Rattle.grid.proofs.Alike.{cell-alike}
 use Rattle.judging.specs.Lookup.{entryFor, isListed}
 use Rattle.judging.specs.Asking.{queueAt, isProper, cellAsked, cellFault, lookupFault}
+use Rattle.judging.specs.Verdict.{verdictOf}
 use Rattle.judging.proofs.Verdicts.{accepted-is-plain}
 use Rattle.controller.specs.declared.Controller.{Controller}
 use Rattle.controller.specs.declared.Shown.{Shown}
-use Rattle.controller.specs.State.{holding, stored}
-use Rattle.controller.specs.Query.{queryFault, entryAsked, showing, refused, queryOf}
+use Rattle.controller.specs.State.{holding, stored, holdsCertificate}
+use Rattle.controller.specs.Query.{queryFault, showing, refused, queryOf}
 use Rattle.controller.specs.Laws.{HoldsCertificate}
 use Rattle.controller.proofs.Holding.{holds-is-plain, holds-in-mode, accepted-holds, load-accepted}
 use Rattle.detectors.specs.declared.LinkReadings.{LinkReadings}
 use Rattle.detectors.specs.Polls.{readingsOf, levelAt, levelFault, levelsFault, cellOfQueues, cellPolled, readingsFault, polledFault}
-use Rattle.polls.specs.Poll.{pollFault, entryPolled, pollOf}
+use Rattle.polls.specs.Poll.{pollFault, pollOf}
 use Rattle.polls.specs.Laws.{Call, callOf, afterCalls, SameToCabinet, RanksUnseen}
 use Rattle.polls.specs.Laws.Call.{query, poll}
 
@@ -105,15 +106,19 @@ unfolding polledFault readingsFault
 polled-exists s m p z = listed-exists s m _ (or-both _ _ (need-both _ _ _ (λ e. omega arith) z .1) .1)
 
 -- two states that hold such certificates in one mode
-record Twin (s t : List ℕ) (c d : Controller) : Type 0 where
-  left : stored c ≡ s
-  right : stored d ≡ t
-  held : HoldsCertificate c
-  held' : HoldsCertificate d
-  mode : c .mode ≡ d .mode
+pub record Twin (s t : List ℕ) (c d : Controller) : Type 0 where
+  pub left : stored c ≡ s
+  pub right : stored d ≡ t
+  pub held : HoldsCertificate c
+  pub held' : HoldsCertificate d
+  pub mode : c .mode ≡ d .mode
 
-abbrev Alike : List ℕ → List ℕ → Shown → Shown → Type 0
+abbrev pub Alike : List ℕ → List ℕ → Shown → Shown → Type 0
 Alike s t r q = SameToCabinet r q × Twin s t (r .state) (q .state)
+
+-- the tests of a state: 18, then those of its certificate in its mode
+abbrev tested : Controller → (List ℕ → ℕ → Report) → Report
+tested c fault = need (holdsCertificate c) (refusal 18 0) (fault (stored c) (c .mode))
 
 -- what is answered where the tests end in f and the entry is e
 abbrev answered : Controller → Report → ℕ → Shown
@@ -133,28 +138,34 @@ module _ {s t : List ℕ} (R : Readable s) (D : DifferInRanks s t) (c d : Contro
           (record { report = refl; signal = signal; green = cc; mode = next }, record { left = T .left; right = T .right; held = holds-in-mode c _ (T .held); held' = holds-in-mode d _ (T .held'); mode = next })
       go false q = (record { report = refl; signal = refl; green = refl; mode = T .mode }, T)
 
-  -- the tests and the entry of a query in either state
+  -- tests and an entry that go by the certificate and the mode, and are the same in s and t
+  by-tests : (fault : List ℕ → ℕ → Report) (entry : List ℕ → ℕ → ℕ) → ((m : ℕ) → fault s m ≡ fault t m) → ((m : ℕ) → entry s m ≡ entry t m)
+      → ((m : ℕ) → fault s m .number ≡ 0 → entry s m < entriesOf s)
+      → Alike s t (answered c (tested c fault) (entry (stored c) (c .mode))) (answered d (tested d fault) (entry (stored d) (d .mode)))
+  by-tests fault entry faults entries exists =
+      let fc : tested c fault ≡ fault s (c .mode) = need-pass _ _ _ (holds-is-plain c .1 (T .held)) ∙ rw (T .left) in
+      let fd : tested d fault ≡ fault s (c .mode) = need-pass _ _ _ (holds-is-plain d .1 (T .held')) ∙ rw (T .right, ← T .mode) (sym (faults _)) in
+      let ec : entry (stored c) (c .mode) ≡ entry s (c .mode) = rw (T .left) in
+      let ed : entry (stored d) (d .mode) ≡ entry s (c .mode) = rw (T .right, ← T .mode) (sym (entries _)) in
+      rw (fc, fd, ec, ed) (answered-alike _ _ (exists (c .mode)))
+
   query-alike : (queues : List ℕ) (scale : ℕ) → Alike s t (queryOf c queues scale) (queryOf d queues scale)
   unfolding queryOf queryFault
   query-alike queues scale =
-      let fc : queryFault c queues scale ≡ lookupFault s (c .mode) queues scale = need-pass _ _ _ (holds-is-plain c .1 (T .held)) ∙ rw (T .left) in
-      let fd : queryFault d queues scale ≡ lookupFault s (c .mode) queues scale = need-pass _ _ _ (holds-is-plain d .1 (T .held')) ∙ rw (T .right, ← T .mode) (sym (lookup-same R D (c .mode) queues scale)) in
-      let ec : entryAsked c queues scale ≡ entryFor s (cellAsked s queues scale) (c .mode) = rw (T .left) in
-      let ed : entryAsked d queues scale ≡ entryFor s (cellAsked s queues scale) (c .mode) =
-      rw (T .right, ← T .mode, ← asked-same R D queues scale) (sym (entry-same R D _ _)) in
-      rw (fc, fd, ec, ed) (answered-alike _ _ (asked-exists s (c .mode) queues scale))
+      by-tests (λ x m. lookupFault x m queues scale) (λ x m. entryFor x (cellAsked x queues scale) m)
+      (λ m. lookup-same R D m queues scale)
+      (λ m. rw (asked-same R D queues scale) (entry-same R D _ m))
+      (λ m. asked-exists s m queues scale)
 
   poll-alike : (p : List ℕ) → Alike s t (pollOf c p) (pollOf d p)
   unfolding pollOf pollFault
   poll-alike p =
-      let fc : pollFault c p ≡ polledFault s (c .mode) p = need-pass _ _ _ (holds-is-plain c .1 (T .held)) ∙ rw (T .left) in
-      let fd : pollFault d p ≡ polledFault s (c .mode) p = need-pass _ _ _ (holds-is-plain d .1 (T .held')) ∙ rw (T .right, ← T .mode) (sym (poll-same R D (c .mode) p)) in
-      let ec : entryPolled c p ≡ entryFor s (cellPolled s (readingsOf p)) (c .mode) = rw (T .left) in
-      let ed : entryPolled d p ≡ entryFor s (cellPolled s (readingsOf p)) (c .mode) =
-      rw (T .right, ← T .mode, ← polled-same R D (readingsOf p)) (sym (entry-same R D _ _)) in
-      rw (fc, fd, ec, ed) (answered-alike _ _ (polled-exists s (c .mode) p))
+      by-tests (λ x m. polledFault x m p) (λ x m. entryFor x (cellPolled x (readingsOf p)) m)
+      (λ m. poll-same R D m p)
+      (λ m. rw (polled-same R D (readingsOf p)) (entry-same R D _ m))
+      (λ m. polled-exists s m p)
 
-  call-alike : (k : Call) → Alike s t (callOf c k) (callOf d k)
+  pub call-alike : (k : Call) → Alike s t (callOf c k) (callOf d k)
   unfolding callOf
   call-alike (query q) = query-alike (q .queues) (q .scale)
   call-alike (poll p) = poll-alike p
@@ -165,11 +176,19 @@ unfolding afterCalls
 after-alike R D c d [] T = T
 after-alike R D c d (k ∷ ks) T = after-alike R D _ _ ks (call-alike R D c d T k .1)
 
+-- the states after the loads
+pub loaded-alike : (s t : List ℕ) → verdictOf s .number ≡ 0 → verdictOf t .number ≡ 0 → Twin s t (holding s) (holding t)
+loaded-alike s t ok ok' =
+    let one = accepted-holds s ok in
+    let other = accepted-holds t ok' in
+    record { left = one .1; right = other .1; held = one .0; held' = other .0; mode = refl }
+
 pub ranks-unseen : RanksUnseen
 ranks-unseen c d s t ks ok ok' D =
     let R = accepted-is-plain s .0 ok .0 .readable in
-    let one = accepted-holds s ok in
-    let other = accepted-holds t ok' in
-    let T : Twin s t (holding s) (holding t) = record { left = one .1; right = other .1; held = one .0; held' = other .0; mode = refl } in
-    let now = after-alike R D _ _ ks T in
-    rw (load-accepted c s ok, load-accepted d t ok') (record { mode = now .mode; answer = λ k. call-alike R D _ _ now k .0 })
+    let now = after-alike R D _ _ ks (loaded-alike s t ok ok') in
+    rw (load-accepted c s ok, load-accepted d t ok') (record {
+      mode = now .mode;
+      query = λ queues scale. query-alike R D _ _ now queues scale .0;
+      poll = λ p. poll-alike R D _ _ now p .0;
+    })

@@ -143,7 +143,8 @@ pub record SameToCabinet (one other : Shown) : Type 0 where
 -- two states are alike to the cabinet: the same mode, and the same answer to every query and every poll
 pub record AlikeToCabinet (c d : Controller) : Type 0 where
   pub mode : c .mode ≡ d .mode
-  pub answer : (k : Call) → SameToCabinet (callOf c k) (callOf d k)
+  pub query : (queues : List ℕ) (scale : ℕ) → SameToCabinet (queryOf c queues scale) (queryOf d queues scale)
+  pub poll : (p : List ℕ) → SameToCabinet (pollOf c p) (pollOf d p)
 
 -- two accepted certificates that differ only in ranks, loaded into any two states: the states are alike to the cabinet after the loads, and after
 -- every list of queries and polls since

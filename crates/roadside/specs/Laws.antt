@@ -1,5 +1,5 @@
 -- What is proved of the street cabinet's calls (proofs/ of this crate). Statements only.
-use Prim.Native.Nat.{ℕ, _*_}
+use Prim.Native.Nat.{ℕ, _*_, _%_}
 use mathlib.Core.List.{List, [], _∷_}
 use mathlib.Core.Path.{_≡_}
 use lib.ListN.{length}
@@ -8,14 +8,13 @@ use Rattle.certificate.specs.Octets.{byteAt}
 use Rattle.certificate.specs.Layout.{linksOf}
 use Rattle.certificate.specs.Entries.{DifferInRanks}
 use Rattle.controller.specs.declared.Controller.{Controller}
-use Rattle.controller.specs.declared.Shown.{Shown}
-use Rattle.controller.specs.State.{freshState, holding, stored}
+use Rattle.controller.specs.State.{freshState, stored}
 use Rattle.controller.specs.Query.{refused, queryOf}
 use Rattle.controller.specs.Laws.{HoldsCertificate}
-use Rattle.packed_state.specs.State.{stateModeAt, stateSize, bytesAfter}
+use Rattle.packed_state.specs.State.{stateModeAt, stateSize}
 use Rattle.held_state.specs.Held.{loadReport, loadOverflows, shownFor, displayOf}
 use Rattle.answer_words.specs.Words.{displayWord, verdictWord, DisplayParts, VerdictParts, queueSize, queuesIn}
-use Rattle.roadside.specs.Calls.{polledFor}
+use Rattle.roadside.specs.Calls.{LoadCall, QueryCall, polledFor, PollCall}
 
 -- the parts of an answer's number are those of the report, the signal and the green byte, or of the verdict, whatever state and bytes are given
 abbrev pub PollWord : Type 0
@@ -41,34 +40,33 @@ QueueBytes =
     (c : Controller) (b : List ℕ) (scale : ℕ) → HoldsCertificate c → (length b ≡ queueSize * linksOf (stored c) → ⊥)
     → queryOf c (queuesIn b) scale ≡ refused c (refusal 16 0)
 
--- Certificates that differ only in ranks (document 02, 7/14), on states that are lent as bytes.
+-- Certificates that differ only in ranks (document 02, 7/14), in what the cabinet's program sees: the answers to its calls, and the lent state's bytes.
 
 -- a query whose queues are given as bytes, or a poll
-pub data LentCall : Type 0 where
-  query : List ℕ → ℕ → LentCall
-  poll : List ℕ → LentCall
+pub data CabinetCall : Type 0 where
+  query : List ℕ → ℕ → CabinetCall
+  poll : List ℕ → CabinetCall
 
--- what a lent state shows for it
-unfoldable pub shownTo : List ℕ → LentCall → Shown
-shownTo state (query queues scale) = shownFor state (queuesIn queues) scale
-shownTo state (poll p) = polledFor state p
+-- the call by its contract: the state's bytes before and after it, and its answer
+abbrev pub Made : CabinetCall → List ℕ → List ℕ → ℕ → Type 0
+Made (query queues scale) state state' r = QueryCall queues scale state state' r
+Made (poll p) state state' r = PollCall p state state' r
 
--- the bytes of a lent state after an accepted load of s, and after a list of queries and polls
-abbrev pub lentAfterLoad : List ℕ → List ℕ → List ℕ
-lentAfterLoad state s = bytesAfter (loadReport state s .number) (holding s) state
+-- calls one after another, each by its contract: the state's bytes before the first and after the last, and the answers
+abbrev pub AllMade : List CabinetCall → List ℕ → List ℕ → List ℕ → Type 0
+AllMade [] state state' [] = state' ≡ state
+AllMade [] state state' (r ∷ rs) = ⊥
+AllMade (k ∷ ks) state state' [] = ⊥
+AllMade (k ∷ ks) state state' (r ∷ rs) = (between : List ℕ) × (Made k state between r × AllMade ks between state' rs)
 
-unfoldable pub lentAfter : List ℕ → List LentCall → List ℕ
-lentAfter state [] = state
-lentAfter state (k ∷ ks) = lentAfter (bytesAfter (shownTo state k .report .number) (shownTo state k .state) state) ks
+-- every list of calls on every lent state has answers
+abbrev pub CallsAnswered : Type 0
+CallsAnswered = (ks : List CabinetCall) (state : List ℕ) → (state' : List ℕ) × ((rs : List ℕ) × AllMade ks state state' rs)
 
--- two lent states are alike to the cabinet: the same byte for the mode, and the same number in answer to every query and every poll
-pub record AlikeLent (state other : List ℕ) : Type 0 where
-  pub mode : byteAt state stateModeAt ≡ byteAt other stateModeAt
-  pub answer : (k : LentCall) → displayWord (displayOf (shownTo state k)) ≡ displayWord (displayOf (shownTo other k))
-
--- two certificates that differ only in ranks, each loaded with answer 0 into a lent state: the states are alike to the cabinet after the loads, and
--- after every list of queries and polls since
+-- two loads whose answers have number 0, of certificates that differ only in ranks, into any two lent states; then the same queries and polls on both: the
+-- answers are the same, number for number, and so is the byte of the mode after the last
 abbrev pub RanksUnseenLent : Type 0
 RanksUnseenLent =
-    (state other s t : List ℕ) (ks : List LentCall) → loadReport state s .number ≡ 0 → loadReport other t .number ≡ 0 → DifferInRanks s t
-    → AlikeLent (lentAfter (lentAfterLoad state s) ks) (lentAfter (lentAfterLoad other t) ks)
+    (s t state state' other other' : List ℕ) (v w : ℕ) → LoadCall s state state' v → LoadCall t other other' w → v % 256 ≡ 0 → w % 256 ≡ 0
+    → DifferInRanks s t → (ks : List CabinetCall) (last last' rs qs : List ℕ) → AllMade ks state' last rs → AllMade ks other' last' qs
+    → (rs ≡ qs) × (byteAt last stateModeAt ≡ byteAt last' stateModeAt)
