@@ -1,10 +1,10 @@
 -- Two byte strings that agree before the first entry of s, the entry count left aside: what stands there is the same. Assumes nothing.
 use Prim.Native.Nat.{ℕ, zero, suc, _+_, _≤_, _<_}
 use mathlib.Core.List.{List}
-use mathlib.Core.Path.{_≡_, refl, ap, _∙_}
+use mathlib.Core.Path.{_≡_, ap}
 use native.Mathlib.Omega.{arith}
 use Rattle.certificate.specs.Octets.{byteAt, u16At}
-use Rattle.certificate.specs.Layout.{linksOf, turnsOf, signalsOf, modesOf, boxesOf, remembers, takesTurns, linkSize, linkAt, capOf, turnsStart, signalsStart, greenByteOf, modesStart, modeSize, modeRecordsOf, gridStart, gridAt, intervalsOf, cutOf, productOf, cellsOf, arrivalsStart, entriesStart}
+use Rattle.certificate.specs.Layout.{linksOf, turnsOf, signalsOf, modesOf, boxesOf, remembers, takesTurns, linkSize, linkAt, capOf, turnsStart, signalsStart, greenByteOf, modesStart, modeSize, modeRecordsOf, gridStart, gridAt, intervalsOf, cutOf, arrivalsStart, entriesStart}
 use Rattle.certificate.specs.Facts.{Readable}
 use Rattle.certificate.proofs.KindSizes.{link-least}
 use Rattle.certificate.proofs.Offsets.{starts, link-end, signal-end, grid-end}
@@ -56,7 +56,7 @@ module _ {s t : List ℕ} (R : Readable s) (A : AgreeBefore s t) where
   unfolding linkSize
   size-same = rw remembers-same
 
-  pub link-place : (l : ℕ) → linkAt s l ≡ linkAt t l
+  link-place : (l : ℕ) → linkAt s l ≡ linkAt t l
   link-place l = rw size-same
 
   pub cap-same : (l : ℕ) → l < linksOf s → capOf s l ≡ capOf t l
@@ -95,14 +95,6 @@ module _ {s t : List ℕ} (R : Readable s) (A : AgreeBefore s t) where
   pub cut-same : (l i : ℕ) → l < linksOf s → i + 1 < intervalsOf s l → cutOf s l i ≡ cutOf t l i
   cut-same l i lt h =
       u16-same (omega (arith, grid-place l (omega arith))) (omega (arith, starts s, grid-least l)) (omega (arith, starts s, grid-end s l lt))
-
-  product-same : (l : ℕ) → l ≤ linksOf s → productOf s l ≡ productOf t l
-  unfolding productOf
-  product-same zero le = refl
-  product-same (suc l) le = cc (product-same l (omega arith), intervals-same l le)
-
-  pub cells-same : cellsOf s ≡ cellsOf t
-  cells-same = product-same (linksOf s) (omega arith) ∙ ap (productOf t) links-same
 
   pub entries-start : entriesStart s ≡ entriesStart t
   unfolding entriesStart arrivalsStart
