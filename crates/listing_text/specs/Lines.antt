@@ -2,7 +2,9 @@
 use Prim.Native.Nat.{ℕ, zero, suc}
 use mathlib.Core.List.{List, [], _++_}
 use Rattle.certificate.specs.declared.Report.{Report}
-use Rattle.certificate.specs.Layout.{linksOf, turnsOf, signalsOf, modesOf, boxesOf, entriesOf, cellOf, modeOf, signalOf, nextModeOf, rankOf}
+use Rattle.certificate.specs.declared.BenchEntry.{BenchEntry}
+use Rattle.certificate.specs.Layout.{linksOf, turnsOf, signalsOf, modesOf, boxesOf, entriesOf}
+use Rattle.certificate.specs.Entries.{benchEntryOf}
 use Rattle.listing_text.specs.Text.{decimal, space, lineFeed, field, linksWord, turnsWord, signalsWord, modesWord, arrivalsWord, entriesWord, acceptedWord, refusedWord}
 
 unfoldable pub countsLine : List ℕ → List ℕ
@@ -11,11 +13,15 @@ countsLine s =
     ++ (space ++ (field modesWord (modesOf s) ++ (space ++ (field arrivalsWord (boxesOf s)
     ++ (space ++ (field entriesWord (entriesOf s) ++ lineFeed))))))))))
 
--- entry e: cell, mode, signal, next mode, rank
+-- what the bench reads of an entry: cell, mode, signal, next mode, rank
+abbrev pub benchLine : BenchEntry → List ℕ
+benchLine r =
+    decimal (r .shown .cell) ++ (space ++ (decimal (r .shown .mode) ++ (space ++ (decimal (r .shown .signal)
+    ++ (space ++ (decimal (r .shown .«next_mode») ++ (space ++ (decimal (r .rank) ++ lineFeed))))))))
+
+-- entry e
 unfoldable pub entryLine : List ℕ → ℕ → List ℕ
-entryLine s e =
-    decimal (cellOf s e) ++ (space ++ (decimal (modeOf s e) ++ (space ++ (decimal (signalOf s e)
-    ++ (space ++ (decimal (nextModeOf s e) ++ (space ++ (decimal (rankOf s e) ++ lineFeed))))))))
+entryLine s e = benchLine (benchEntryOf s e)
 
 -- the lines of the entries before n
 unfoldable pub entryLines : List ℕ → ℕ → List ℕ
