@@ -113,6 +113,7 @@ pub record Twin (s t : List ℕ) (c d : Controller) : Type 0 where
   pub held' : HoldsCertificate d
   pub mode : c .mode ≡ d .mode
 
+-- two answers that are the same to the cabinet, and leave such states
 abbrev pub Alike : List ℕ → List ℕ → Shown → Shown → Type 0
 Alike s t r q = SameToCabinet r q × Twin s t (r .state) (q .state)
 
