@@ -2,21 +2,21 @@
 use Rattle.std.specs.Prelude.{ℕ, ◌+◌, ◌*◌, ◌/◌, ◌%◌, ◌≤◌, ◌<◌, Bool, cond, List, [], ◌≡◌, length, take, leb, eqb}
 use Rattle.certificate.specs.declared.Report.{Report}
 use Rattle.certificate.specs.Octets.{◌also◌}
-use Rattle.certificate.specs.Layout.{maxLinks}
+use Rattle.certificate.specs.Layout.{max_links}
 use Rattle.octets.specs.Tables.{table_of}
 use Rattle.held_state.specs.declared.Display.{Display}
-use Rattle.packed_state.specs.State.{quadAt}
+use Rattle.packed_state.specs.State.{quad_at}
 use Rattle.answer_words.specs.declared.Queues.{Queues}
 
 -- of a query or a poll: eight bits each for the number, A, the count, the signal and the green byte, from the lowest
-unfoldable pub displayWord : Display → ℕ
-displayWord d =
+unfoldable pub display_word : Display → ℕ
+display_word d =
     d.report.number + 256 * d.report.a + 65536 * d.report.count + 16777216 * d.signal + 4294967296 * d.green
 
 -- of a load: eight bits for the number, 16 for A, twelve for B, 28 for the count. An acceptance has no places; where A stands, it has the number
 -- of entries that may turn arrivals away, which is 0 in a refusal
-unfoldable pub verdictWord : Report → ℕ → ℕ
-verdictWord r overflows = r.number + 256 * (r.a + overflows) + 16777216 * r.b + 68719476736 * r.count
+unfoldable pub verdict_word : Report → ℕ → ℕ
+verdict_word r overflows = r.number + 256 * (r.a + overflows) + 16777216 * r.b + 68719476736 * r.count
 
 -- the parts of a query's or a poll's number, by division
 pub record DisplayParts (w : ℕ) (d : Display) : Type 0 where
@@ -31,9 +31,9 @@ pub record DisplayParts (w : ℕ) (d : Display) : Type 0 where
 -- the parts of a load's
 pub record VerdictParts (w : ℕ) (r : Report) (overflows : ℕ) : Type 0 where
   pub number : w % 256 ≡ r.number
-  pub place-a : (r.number ≡ 0 → ⊥) → w / 256 % 65536 ≡ r.a
+  pub place_a : (r.number ≡ 0 → ⊥) → w / 256 % 65536 ≡ r.a
   pub overflow : r.number ≡ 0 → w / 256 % 65536 ≡ overflows
-  pub place-b : w / 16777216 % 4096 ≡ r.b
+  pub place_b : w / 16777216 % 4096 ≡ r.b
   pub count : w / 68719476736 ≡ r.count
 
 -- what is displayed fits a query's or a poll's number, which has no place B
@@ -48,26 +48,26 @@ pub record DisplayFits (d : Display) : Type 0 where
 -- a report and a number of entries that fit a load's number
 pub record LoadFits (r : Report) (overflows : ℕ) : Type 0 where
   pub number : r.number < 256
-  pub place-a : r.a + overflows < 65536
-  pub place-b : r.b < 4096
+  pub place_a : r.a + overflows < 65536
+  pub place_b : r.b < 4096
   pub count : r.count < 268435456
   -- an acceptance has no place A, a refusal no number of entries
   pub accepted : r.number ≡ 0 → r.a ≡ 0
   pub refused : (r.number ≡ 0 → ⊥) → overflows ≡ 0
 
 -- the bytes of a queue
-abbrev pub queueSize : ℕ
-queueSize = 4
+abbrev pub queue_size : ℕ
+queue_size = 4
 
 -- a whole number of queues, and no more than a certificate has links
-unfoldable pub hasQueues : List ℕ → Bool
-hasQueues b = eqb (length b % queueSize) 0 also leb (length b) (queueSize * maxLinks)
+unfoldable pub has_queues : List ℕ → Bool
+has_queues b = eqb (length b % queue_size) 0 also leb (length b) (queue_size * max_links)
 
 -- the queues that bytes are, each four bytes, high byte first; any other bytes are no queues, so their number is not that of the links (16)
-unfoldable pub queuesIn : List ℕ → List ℕ
-queuesIn b = cond (hasQueues b) (table_of (length b / queueSize) (λ l. quadAt b (queueSize * l))) []
+unfoldable pub queues_in : List ℕ → List ℕ
+queues_in b = cond (has_queues b) (table_of (length b / queue_size) (λ l. quad_at b (queue_size * l))) []
 
 -- the first of a table are those queues
 pub record QueuesRead (b : List ℕ) (q : Queues) : Type 0 where
-  pub most : q.count ≤ maxLinks
-  pub queues : take q.count q.of ≡ queuesIn b
+  pub most : q.count ≤ max_links
+  pub queues : take q.count q.of ≡ queues_in b

@@ -1,6 +1,6 @@
 // How answers and queues cross to C: an answer is one number of 64 bits, a queue four bytes.
 ghost use Rattle.std.specs.Prelude.{◌≡◌};
-ghost use Rattle.answer_words.specs.Words.{displayWord, verdictWord, LoadFits, QueuesRead};
+ghost use Rattle.answer_words.specs.Words.{display_word, verdict_word, LoadFits, QueuesRead};
 
 use certificate::limits;
 use held_state::Display;
@@ -12,7 +12,7 @@ const QUEUE_SIZE: usize = 4;
 
 // The number of a query's or a poll's answer.
 pub fn display_word(d: Display) -> u64
-    ensures { result ≡ displayWord d }
+    ensures { result ≡ display_word d }
 {
     let report = d.report;
     let word = numbers::wide(report.number)
@@ -26,7 +26,7 @@ pub fn display_word(d: Display) -> u64
 // The number of a load's answer.
 pub fn verdict_word(v: Verdict) -> u64
     requires { LoadFits v.report v.overflows }
-    ensures { result ≡ verdictWord v.report v.overflows }
+    ensures { result ≡ verdict_word v.report v.overflows }
 {
     let r = v.report;
     let word = numbers::wide(r.number)

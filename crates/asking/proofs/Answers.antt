@@ -11,116 +11,116 @@ use lib.ListN.{length, take}
 use Rattle.certificate.specs.declared.Report.{Report}
 use Rattle.reading.specs.declared.Reading.{Reading}
 use Rattle.certificate.specs.Checks.{refusal, fine}
-use Rattle.certificate.specs.Loops.{everyFrom}
-use Rattle.certificate.specs.Layout.{linksOf, cap_of, entriesOf}
+use Rattle.certificate.specs.Loops.{every_from}
+use Rattle.certificate.specs.Layout.{links_of, cap_of, entries_of}
 use Rattle.certificate.specs.Facts.{Readable}
 use Rattle.reading.specs.ReadingResults.{ReadAs, no_layout}
-use Rattle.certificate.proofs.Tests.{need-both, need-pass, need-fail}
-use Rattle.octets.proofs.Cases.{pass, fail, all-on, all-stop, all_end}
-use Rattle.network.specs.Conditions.{screeningOf}
-use Rattle.network.proofs.Screening.{screening-is-plain}
+use Rattle.certificate.proofs.Tests.{need_both, need_pass, need_fail}
+use Rattle.octets.proofs.Cases.{pass, fail, all_on, all_stop, all_end}
+use Rattle.network.specs.Conditions.{screening_of}
+use Rattle.network.proofs.Screening.{screening_is_plain}
 use Rattle.cell_tables.specs.Tables.{QueuesFit}
-use Rattle.judging.specs.Lookup.{entryFor, isListed}
+use Rattle.judging.specs.Lookup.{entry_for, is_listed}
 use Rattle.asking.specs.declared.Found.{Found}
-use Rattle.judging.specs.Asking.{queueAt, isProper, cellAsked, cellFault, Proper}
-use Rattle.asking.specs.FoundEntries.{storedFault, found_at, notFound, cellFound, lookupOf, asked_of}
-use Rattle.judging.proofs.Asking.{proper-tells}
+use Rattle.judging.specs.Asking.{queue_at, is_proper, cell_asked, cell_fault, Proper}
+use Rattle.asking.specs.FoundEntries.{stored_fault, found_at, not_found, cell_found, lookup_of, asked_of}
+use Rattle.judging.proofs.Asking.{proper_tells}
 
 -- the loop that compares each queue with cap times the scale: it goes on, stops, ends
 module _ (s queues : List ℕ) (scale links : ℕ) where
   -- the tests from link k on
-  abbrev pub fitFrom : ℕ → Bool
-  fitFrom k = everyFrom links (λ i. leb (queueAt queues i) (cap_of s i * scale)) k
+  abbrev pub fit_from : ℕ → Bool
+  fit_from k = every_from links (λ i. leb (queue_at queues i) (cap_of s i * scale)) k
 
-  module _ (l q cap unit : ℕ) (queue : q ≡ queueAt queues l) (most : cap ≡ cap_of s l) (scaled : unit ≡ scale) (inside : l < links) (same : fitFrom l ≡ fitFrom 0) where
-    pub fit_on : q ≤ cap * unit → fitFrom (l + 1) ≡ fitFrom 0
-    fit_on le = all-on links l _ (leb q (cap * unit)) _ inside (rw (queue, most, scaled)) (le-leb q (cap * unit) le) same
+  module _ (l q cap unit : ℕ) (queue : q ≡ queue_at queues l) (most : cap ≡ cap_of s l) (scaled : unit ≡ scale) (inside : l < links) (same : fit_from l ≡ fit_from 0) where
+    pub fit_on : q ≤ cap * unit → fit_from (l + 1) ≡ fit_from 0
+    fit_on le = all_on links l _ (leb q (cap * unit)) _ inside (rw (queue, most, scaled)) (le-leb q (cap * unit) le) same
 
-    pub fit-stop : cap * unit < q → false ≡ fitFrom 0
-    fit-stop lt = all-stop links l _ (leb q (cap * unit)) _ inside (rw (queue, most, scaled)) (lt-leb q (cap * unit) lt) same
+    pub fit_stop : cap * unit < q → false ≡ fit_from 0
+    fit_stop lt = all_stop links l _ (leb q (cap * unit)) _ inside (rw (queue, most, scaled)) (lt-leb q (cap * unit) lt) same
 
-  pub fit-end : (l : ℕ) → links ≤ l → fitFrom l ≡ fitFrom 0 → true ≡ fitFrom 0
-  fit-end l le same = all_end links l _ _ le same
+  pub fit_end : (l : ℕ) → links ≤ l → fit_from l ≡ fit_from 0 → true ≡ fit_from 0
+  fit_end l le same = all_end links l _ _ le same
 
 -- the stored bytes are screened where the array has that many
 module _ (bytes : List ℕ) (n : ℕ) (r : Reading) where
-  pub too_many : length bytes < n → {f : Report} → f ≡ refusal 18 0 → (r.report ≡ f) × (r.layout ≡ no_layout) → ReadAs (take n bytes) (storedFault bytes n) r
-  unfolding storedFault
+  pub too_many : length bytes < n → {f : Report} → f ≡ refusal 18 0 → (r.report ≡ f) × (r.layout ≡ no_layout) → ReadAs (take n bytes) (stored_fault bytes n) r
+  unfolding stored_fault
   too_many lt e (same, none) =
       let is : r.report ≡ refusal 18 0 = same ∙ e in
       record {
-        report-is = fail _ _ _ _ (lt-leb _ _ lt) is;
+        report_is = fail _ _ _ _ (lt-leb _ _ lt) is;
         laid = λ z. let eighteen = ap (λ (x : Report). x.number) is in absurd (omega arith);
         none = λ _. none;
       }
 
-  pub screened : n ≤ length bytes → ReadAs (take n bytes) (screeningOf (take n bytes)) r → ReadAs (take n bytes) (storedFault bytes n) r
-  unfolding storedFault
-  screened le a = record { report-is = pass _ _ _ _ (le-leb _ _ le) a.report-is; laid = a.laid; none = a.none }
+  pub screened : n ≤ length bytes → ReadAs (take n bytes) (screening_of (take n bytes)) r → ReadAs (take n bytes) (stored_fault bytes n) r
+  unfolding stored_fault
+  screened le a = record { report_is = pass _ _ _ _ (le-leb _ _ le) a.report_is; laid = a.laid; none = a.none }
 
   -- bytes that pass are a readable certificate, and there are as many
-  module _ (a : ReadAs (take n bytes) (storedFault bytes n) r) (z : r.report.number ≡ 0) where
-    passed : (leb n (length bytes) ≡ true) × ((screeningOf (take n bytes)).number ≡ 0)
-    unfolding storedFault
-    passed = need-both _ _ _ (λ e. omega arith) (rw a.report-is at z)
+  module _ (a : ReadAs (take n bytes) (stored_fault bytes n) r) (z : r.report.number ≡ 0) where
+    passed : (leb n (length bytes) ≡ true) × ((screening_of (take n bytes)).number ≡ 0)
+    unfolding stored_fault
+    passed = need_both _ _ _ (λ e. omega arith) (rw a.report_is at z)
 
     pub enough : n ≤ length bytes
     enough = leb-true _ _ passed.0
 
     pub readable : Readable (take n bytes)
-    readable = ((screening-is-plain (take n bytes)).0 passed.1).readable
+    readable = ((screening_is_plain (take n bytes)).0 passed.1).readable
 
 -- looking up in a readable certificate
 module _ (s : List ℕ) (mode : ℕ) (queues : List ℕ) (scale : ℕ) where
   -- 16
-  pub finds-improper : {r : Found} → isProper s queues scale ≡ false → r ≡ notFound (refusal 16 0) mode → r ≡ lookupOf s mode queues scale
-  unfolding lookupOf
-  finds-improper bad e = e ∙ rw bad
+  pub finds_improper : {r : Found} → is_proper s queues scale ≡ false → r ≡ not_found (refusal 16 0) mode → r ≡ lookup_of s mode queues scale
+  unfolding lookup_of
+  finds_improper bad e = e ∙ rw bad
 
-  module _ (ok : isProper s queues scale ≡ true) where
+  module _ (ok : is_proper s queues scale ≡ true) where
     proper : Proper s queues scale
-    proper = (proper-tells s queues scale).0 ok
+    proper = (proper_tells s queues scale).0 ok
 
     -- what finding the cell asks
-    pub as_many : {links : ℕ} → links ≡ linksOf s → length queues ≡ links
+    pub as_many : {links : ℕ} → links ≡ links_of s → length queues ≡ links
     as_many w = proper.number ∙ sym w
 
-    pub scale-fits : scale ≤ 100000
-    scale-fits = proper.scale-most
+    pub scale_fits : scale ≤ 100000
+    scale_fits = proper.scale_most
 
-    pub queues-fit : QueuesFit s scale queues
-    queues-fit l lt = rw (mul_comm scale (cap_of s l)) (proper.queue-most l lt)
+    pub queues_fit : QueuesFit s scale queues
+    queues_fit l lt = rw (mul_comm scale (cap_of s l)) (proper.queue_most l lt)
 
     -- what is found for the queues' cell
-    pub finds-cell : {cell : ℕ} {r : Found} → cell ≡ cellAsked s queues scale → r ≡ cellFound s mode cell → r ≡ lookupOf s mode queues scale
-    unfolding lookupOf
-    finds-cell asked e = e ∙ rw (ok, asked)
+    pub finds_cell : {cell : ℕ} {r : Found} → cell ≡ cell_asked s queues scale → r ≡ cell_found s mode cell → r ≡ lookup_of s mode queues scale
+    unfolding lookup_of
+    finds_cell asked e = e ∙ rw (ok, asked)
 
 -- what is found for a cell
-module _ (s : List ℕ) (mode cell : ℕ) {e entries : ℕ} (is : e ≡ entryFor s cell mode) (all : entries ≡ entriesOf s) where
-  listed : (b : Bool) → ltb e entries ≡ b → isListed s cell mode ≡ b
-  unfolding isListed
+module _ (s : List ℕ) (mode cell : ℕ) {e entries : ℕ} (is : e ≡ entry_for s cell mode) (all : entries ≡ entries_of s) where
+  listed : (b : Bool) → ltb e entries ≡ b → is_listed s cell mode ≡ b
+  unfolding is_listed
   listed b t = rw (← is, ← all) t
 
   -- 19
-  pub finds-none : {r : Found} → entries ≤ e → r ≡ notFound (refusal 19 0) mode → r ≡ cellFound s mode cell
-  unfolding cellFound cellFault
-  finds-none beyond w =
-      let fault : cellFault s mode cell ≡ refusal 19 0 = need-fail _ _ _ (listed false (le-ltb _ _ beyond)) in
+  pub finds_none : {r : Found} → entries ≤ e → r ≡ not_found (refusal 19 0) mode → r ≡ cell_found s mode cell
+  unfolding cell_found cell_fault
+  finds_none beyond w =
+      let fault : cell_fault s mode cell ≡ refusal 19 0 = need_fail _ _ _ (listed false (le-ltb _ _ beyond)) in
       w ∙ rw fault
 
-  pub finds : {r : Found} → e < entries → r ≡ found_at s e → r ≡ cellFound s mode cell
-  unfolding cellFound cellFault
+  pub finds : {r : Found} → e < entries → r ≡ found_at s e → r ≡ cell_found s mode cell
+  unfolding cell_found cell_fault
   finds inside w =
-      let fault : cellFault s mode cell ≡ fine = need-pass _ _ _ (listed true (lt-ltb _ _ inside)) in
+      let fault : cell_fault s mode cell ≡ fine = need_pass _ _ _ (listed true (lt-ltb _ _ inside)) in
       w ∙ rw (fault, is)
 
 -- looking up in the first n bytes of an array
-module _ (bytes : List ℕ) (n mode : ℕ) (queues : List ℕ) (scale : ℕ) {f : Report} (screening : f ≡ storedFault bytes n) {r : Found} where
-  pub asks_none : (f.number ≡ 0 → ⊥) → r ≡ notFound (refusal 18 0) mode → r ≡ asked_of bytes n mode queues scale
+module _ (bytes : List ℕ) (n mode : ℕ) (queues : List ℕ) (scale : ℕ) {f : Report} (screening : f ≡ stored_fault bytes n) {r : Found} where
+  pub asks_none : (f.number ≡ 0 → ⊥) → r ≡ not_found (refusal 18 0) mode → r ≡ asked_of bytes n mode queues scale
   unfolding asked_of
   asks_none bad w = w ∙ rw (← screening, ne_eqb f.number 0 bad)
 
-  pub asks : f.number ≡ 0 → r ≡ lookupOf (take n bytes) mode queues scale → r ≡ asked_of bytes n mode queues scale
+  pub asks : f.number ≡ 0 → r ≡ lookup_of (take n bytes) mode queues scale → r ≡ asked_of bytes n mode queues scale
   unfolding asked_of
   asks z w = w ∙ rw (← screening, eq-eqb f.number 0 z)

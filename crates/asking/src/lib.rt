@@ -3,8 +3,8 @@ ghost use Rattle.std.specs.Prelude.{◌≡◌, ◌≤◌};
 ghost use Rattle.certificate.specs.Checks.{refusal};
 ghost use Rattle.certificate.specs.Facts.{Readable};
 ghost use Rattle.reading.specs.ReadingResults.{LaidOut};
-ghost use Rattle.asking.specs.FoundEntries.{found_at, notFound, cellFound, lookupOf, asked_of};
-ghost use Rattle.certificate.specs.Layout.{maxCells, maxEntries};
+ghost use Rattle.asking.specs.FoundEntries.{found_at, not_found, cell_found, lookup_of, asked_of};
+ghost use Rattle.certificate.specs.Layout.{max_cells, max_entries};
 
 mod proper;
 pub mod stored;
@@ -26,7 +26,7 @@ pub struct Found {
 
 // A refusal: nothing is shown, and the mode stays.
 pub fn turned_back(report: Report, mode: u8) -> Found
-    ensures { result ≡ notFound report mode }
+    ensures { result ≡ not_found report mode }
 {
     Found {
         report,
@@ -38,14 +38,14 @@ pub fn turned_back(report: Report, mode: u8) -> Found
 
 // A refusal that names no place.
 pub fn not_found(number: u8, mode: u8) -> Found
-    ensures { result ≡ notFound (refusal number 0) mode }
+    ensures { result ≡ not_found (refusal number 0) mode }
 {
     turned_back(octets::refuse(number, 0), mode)
 }
 
 // What entry e says.
 fn found_at(s: &[u8], layout: reading::Layout, e: usize) -> Found
-    requires { LaidOut s.now layout × (e ≤ maxEntries) }
+    requires { LaidOut s.now layout × (e ≤ max_entries) }
     ensures { result ≡ found_at s.now e }
 {
     let entry = entries::cabinet_entry(s, layout.entries_start, e);
@@ -62,8 +62,8 @@ fn found_at(s: &[u8], layout: reading::Layout, e: usize) -> Found
 
 // What is found for a cell in a certificate whose layout is known: what its entry for the mode says, or 19.
 pub fn find_cell(s: &[u8], layout: reading::Layout, mode: u8, cell: usize) -> Found
-    requires { LaidOut s.now layout × Readable s.now × (cell ≤ maxCells) }
-    ensures { result ≡ cellFound s.now mode cell }
+    requires { LaidOut s.now layout × Readable s.now × (cell ≤ max_cells) }
+    ensures { result ≡ cell_found s.now mode cell }
 {
     let entries = layout.entries;
     let e = lookup::find_entry(s, layout.entries_start, entries, cell, mode as usize);
@@ -76,7 +76,7 @@ pub fn find_cell(s: &[u8], layout: reading::Layout, mode: u8, cell: usize) -> Fo
 // Looks up in a certificate whose layout is known.
 fn look_up(s: &[u8], layout: reading::Layout, mode: u8, queues: &[u32], scale: u32) -> Found
     requires { LaidOut s.now layout × Readable s.now }
-    ensures { result ≡ lookupOf s.now mode queues.now scale }
+    ensures { result ≡ lookup_of s.now mode queues.now scale }
 {
     let links = layout.links;
     if !proper::is_proper(s, links, queues, scale) {

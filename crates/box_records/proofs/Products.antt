@@ -4,16 +4,16 @@ use native.Mathlib.Nat.{mul-le-mul, le_of_lt}
 use native.Mathlib.Omega.{arith}
 use mir.Val.{Fits}
 use mir.Syntax.{w64}
-use Rattle.certificate.specs.Layout.{arrivalSize}
+use Rattle.certificate.specs.Layout.{arrival_size}
 
-pub product-fits : (a b : ℕ) → a ≤ 4096 → b < 256 → Fits w64 (a * b)
-product-fits a b p q =
+pub product_fits : (a b : ℕ) → a ≤ 4096 → b < 256 → Fits w64 (a * b)
+product_fits a b p q =
     let h : a * b ≤ 4096 * 256 = mul-le-mul p (le_of_lt q) in
     record { fits = omega arith }
 
 -- how far from the first arrival box another one is
-pub box-offset : (links b : ℕ) → links ≤ 8 → b < 256 → arrivalSize links * b ≤ 8704
-box-offset links b p q =
+pub box_offset : (links b : ℕ) → links ≤ 8 → b < 256 → arrival_size links * b ≤ 8704
+box_offset links b p q =
     let h : 2 + 4 * links ≤ 34 = omega arith in
-    let k : arrivalSize links * b ≤ 34 * 256 = mul-le-mul h (le_of_lt q) in
+    let k : arrival_size links * b ≤ 34 * 256 = mul-le-mul h (le_of_lt q) in
     omega arith

@@ -1,10 +1,10 @@
 // GR: one record a link, how many intervals its queues are cut into, and the cuts. The records differ in size.
 ghost use Rattle.std.specs.Prelude.{◌≡◌, ◌*◌, ◌-◌, ◌<◌, ◌≤◌};
-ghost use Rattle.certificate.specs.Checks.{firstBad};
-ghost use Rattle.certificate.specs.Layout.{maxCells, maxLinks, cap_of, gridStart, countAt, cutAt, gridAt, productOf};
-ghost use Rattle.certificate.specs.Records.{cutFault, countOk, gridFault};
-ghost use Rattle.box_records.specs.GridRecords.{cutsFault, GridsRead};
-ghost use Rattle.octets.specs.Bounds.{gridsBound, start_bound};
+ghost use Rattle.certificate.specs.Checks.{first_bad};
+ghost use Rattle.certificate.specs.Layout.{max_cells, max_links, cap_of, grid_start, count_at, cut_at, grid_at, product_of};
+ghost use Rattle.certificate.specs.Records.{cut_fault, count_ok, grid_fault};
+ghost use Rattle.box_records.specs.GridRecords.{cuts_fault, GridsRead};
+ghost use Rattle.octets.specs.Bounds.{grids_bound, start_bound};
 
 use certificate::{Report, limits};
 use road_records::links;
@@ -22,7 +22,7 @@ pub struct Grids {
 // How many intervals the record at o has.
 pub fn count_at(s: &[u8], o: usize) -> usize
     requires { o ≤ start_bound }
-    ensures { (result ≡ countAt s.now o) × (result < 256) }
+    ensures { (result ≡ count_at s.now o) × (result < 256) }
 {
     octets::byte_at(s, o + 2)
 }
@@ -30,15 +30,15 @@ pub fn count_at(s: &[u8], o: usize) -> usize
 // Cut i of the record at o.
 pub fn cut_at(s: &[u8], o: usize, i: usize) -> usize
     requires { (o ≤ start_bound) × (i < 256) }
-    ensures { (result ≡ cutAt s.now o i) × (result < 65536) }
+    ensures { (result ≡ cut_at s.now o i) × (result < 65536) }
 {
     octets::u16_at(s, o + 3 + 2 * i)
 }
 
 // The first n cuts of link l: they ascend, each below the cap.
 fn check_cuts(s: &[u8], l: usize, o: usize, cap: usize, n: usize) -> Report
-    requires { (o ≤ start_bound) × (n < 256) × (o ≡ gridAt s.now l) × (cap ≡ cap_of s.now l) }
-    ensures { result ≡ firstBad n (cutFault s.now l) }
+    requires { (o ≤ start_bound) × (n < 256) × (o ≡ grid_at s.now l) × (cap ≡ cap_of s.now l) }
+    ensures { result ≡ first_bad n (cut_fault s.now l) }
 {
     let mut before = 0;
     for i in 0..n {
@@ -53,8 +53,8 @@ fn check_cuts(s: &[u8], l: usize, o: usize, cap: usize, n: usize) -> Report
 
 // The count of link l, and the product of the counts up to it.
 fn count_ok(s: &[u8], l: usize, o: usize, product: usize) -> bool
-    requires { (o ≤ start_bound) × (product ≤ maxCells) × (o ≡ gridAt s.now l) × (product ≡ productOf s.now l) }
-    ensures { result ≡ countOk s.now l }
+    requires { (o ≤ start_bound) × (product ≤ max_cells) × (o ≡ grid_at s.now l) × (product ≡ product_of s.now l) }
+    ensures { result ≡ count_ok s.now l }
 {
     let count = count_at(s, o);
     (1 <= count) & (count <= limits::MAX_INTERVALS) & (product * count <= limits::MAX_CELLS)
@@ -68,8 +68,8 @@ fn one_less(n: usize) -> usize
 
 // The cuts of link l: all present, and in order.
 fn check_cuts_of(s: &[u8], l: usize, o: usize) -> Report
-    requires { (l < 256) × (o ≤ start_bound) × (o ≡ gridAt s.now l) }
-    ensures { result ≡ cutsFault s.now l }
+    requires { (l < 256) × (o ≤ start_bound) × (o ≡ grid_at s.now l) }
+    ensures { result ≡ cuts_fault s.now l }
 {
     let count = count_at(s, o);
     if s.len() < o + (1 + 2 * count) {
@@ -80,8 +80,8 @@ fn check_cuts_of(s: &[u8], l: usize, o: usize) -> Report
 
 // The record of link l at o; `product` is that of the counts before it.
 fn check_grid(s: &[u8], l: usize, o: usize, product: usize) -> Report
-    requires { (l < 256) × (o ≤ start_bound) × (product ≤ maxCells) × (o ≡ gridAt s.now l) × (product ≡ productOf s.now l) }
-    ensures { result ≡ gridFault s.now l }
+    requires { (l < 256) × (o ≤ start_bound) × (product ≤ max_cells) × (o ≡ grid_at s.now l) × (product ≡ product_of s.now l) }
+    ensures { result ≡ grid_fault s.now l }
 {
     let f = octets::check_opened(s, o, octets::marked_as(s, o, 71, 82), 3);
     if f.number != 0 {
@@ -94,7 +94,7 @@ fn check_grid(s: &[u8], l: usize, o: usize, product: usize) -> Report
 
 // The records of all links, the first at `start`.
 pub fn check_grids(s: &[u8], start: usize, links: usize) -> Grids
-    requires { (links ≤ maxLinks) × (start ≤ gridsBound) × (start ≡ gridStart s.now) }
+    requires { (links ≤ max_links) × (start ≤ grids_bound) × (start ≡ grid_start s.now) }
     ensures { GridsRead s.now links result }
 {
     let mut places = [0usize; limits::MAX_LINKS];

@@ -1,8 +1,8 @@
 // The interval of each link in each cell, eight a cell, counted up from one cell to the next: the last link counts fastest.
 ghost use Rattle.std.specs.Prelude.{◌≡◌, ◌+◌, ◌*◌, ◌<◌, length};
-ghost use Rattle.certificate.specs.Layout.{maxIntervals, maxLinks, maxCells, linksOf, intervalsOf, cells_of};
+ghost use Rattle.certificate.specs.Layout.{max_intervals, max_links, max_cells, links_of, intervals_of, cells_of};
 ghost use Rattle.certificate.specs.Facts.{Readable};
-ghost use Rattle.grid.specs.Cells.{intervalIn};
+ghost use Rattle.grid.specs.Cells.{interval_in};
 ghost use Rattle.octets.specs.Tables.{Holds};
 ghost use Rattle.cell_tables.specs.Tables.{GridOf, DigitsOf};
 
@@ -21,8 +21,8 @@ fn count_up(
     cell: usize,
     intervals: &mut [u8; limits::MAX_LINKS],
 )
-    requires { GridOf s.now counts.now links × (length intervals.old ≡ maxLinks) × Holds (linksOf s.now) (intervalIn s.now cell) intervals.old }
-    ensures { (length intervals.new ≡ maxLinks) × Holds (linksOf s.now) (intervalIn s.now (cell + 1)) intervals.new }
+    requires { GridOf s.now counts.now links × (length intervals.old ≡ max_links) × Holds (links_of s.now) (interval_in s.now cell) intervals.old }
+    ensures { (length intervals.new ≡ max_links) × Holds (links_of s.now) (interval_in s.now (cell + 1)) intervals.new }
 {
     let mut l = links;
     while l > 0 {
@@ -44,7 +44,7 @@ pub fn fill_digits(
     cells: usize,
     digits: &mut [u8; DIGITS],
 )
-    requires { GridOf s.now counts.now links × (cells ≡ cells_of s.now) × (length digits.old ≡ maxLinks * maxCells) }
+    requires { GridOf s.now counts.now links × (cells ≡ cells_of s.now) × (length digits.old ≡ max_links * max_cells) }
     ensures { DigitsOf s.now digits.new }
 {
     let mut intervals = [0u8; limits::MAX_LINKS];
@@ -58,8 +58,8 @@ pub fn fill_digits(
 
 // The interval of link l in a cell, from the table.
 pub fn interval_in(s: &[u8], digits: &[u8; DIGITS], cell: usize, l: usize) -> usize
-    requires { Readable s.now × DigitsOf s.now digits.now × (cell < cells_of s.now) × (l < linksOf s.now) }
-    ensures { (result ≡ intervalIn s.now cell l) × (result < intervalsOf s.now l) × (result < maxIntervals) }
+    requires { Readable s.now × DigitsOf s.now digits.now × (cell < cells_of s.now) × (l < links_of s.now) }
+    ensures { (result ≡ interval_in s.now cell l) × (result < intervals_of s.now l) × (result < max_intervals) }
 {
     numbers::wide(digits[limits::MAX_LINKS * cell + l])
 }

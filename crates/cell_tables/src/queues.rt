@@ -1,7 +1,7 @@
 // The cell that holds given queues, each at most cap, over a scale.
 ghost use Rattle.std.specs.Prelude.{◌≡◌, ◌+◌, ◌*◌, ◌-◌, ◌<◌, ◌≤◌, length, get_or, ltb};
 ghost use Rattle.certificate.specs.Loops.{find};
-ghost use Rattle.certificate.specs.Layout.{maxCells, maxScale, linksOf, countAt, cutAt, cells_of};
+ghost use Rattle.certificate.specs.Layout.{max_cells, max_scale, links_of, count_at, cut_at, cells_of};
 ghost use Rattle.certificate.specs.Facts.{Readable};
 ghost use Rattle.grid.specs.Cells.{cell_at};
 ghost use Rattle.cell_tables.specs.Tables.{PlacesOf, QueuesFit};
@@ -13,8 +13,8 @@ use octets::numbers;
 
 // The interval that holds x over scale, of the link whose grid record starts at o: the first whose upper edge is above x, else the last.
 fn interval_at(s: &[u8], o: usize, scale: usize, x: usize) -> usize
-    requires { (o ≤ start_bound) × (scale ≤ maxScale) }
-    ensures { result ≡ find (countAt s.now o - 1) (λ i. ltb x (scale * cutAt s.now o i)) }
+    requires { (o ≤ start_bound) × (scale ≤ max_scale) }
+    ensures { result ≡ find (count_at s.now o - 1) (λ i. ltb x (scale * cut_at s.now o i)) }
 {
     let count = grids::count_at(s, o);
     let mut i = 0;
@@ -29,7 +29,7 @@ fn interval_at(s: &[u8], o: usize, scale: usize, x: usize) -> usize
 
 // The number so far with one link more: times the link's interval count, plus its interval.
 pub fn with_link(cell: usize, count: usize, i: usize) -> usize
-    requires { cell * count + i ≤ maxCells }
+    requires { cell * count + i ≤ max_cells }
     ensures { result ≡ cell * count + i }
 {
     cell * count + i
@@ -43,7 +43,7 @@ pub fn cell_at(
     queues: &[u32],
     scale: u32,
 ) -> usize
-    requires { Readable s.now × PlacesOf s.now places.now × (links ≡ linksOf s.now) × (length queues.now ≡ links) × (scale ≤ maxScale) × QueuesFit s.now scale queues.now }
+    requires { Readable s.now × PlacesOf s.now places.now × (links ≡ links_of s.now) × (length queues.now ≡ links) × (scale ≤ max_scale) × QueuesFit s.now scale queues.now }
     ensures { (result ≡ cell_at s.now scale (λ l. get_or queues.now l 0)) × (result < cells_of s.now) }
 {
     let unit = numbers::wide_quad(scale);

@@ -1,8 +1,8 @@
 // The edges of every link's intervals, and how many there are. `o` and `places` are where the grid records start.
 ghost use Rattle.std.specs.Prelude.{◌≡◌, ◌<◌, ◌≤◌};
-ghost use Rattle.certificate.specs.Layout.{maxLinks, linksOf, gridAt};
+ghost use Rattle.certificate.specs.Layout.{max_links, links_of, grid_at};
 ghost use Rattle.certificate.specs.Facts.{Readable};
-ghost use Rattle.cell_tables.specs.Tables.{edgeRow, PlacesOf, edge_of, EdgesOf, CountsOf};
+ghost use Rattle.cell_tables.specs.Tables.{edge_row, PlacesOf, edge_of, EdgesOf, CountsOf};
 ghost use Rattle.octets.specs.Bounds.{start_bound};
 
 use box_records::grids;
@@ -16,7 +16,7 @@ pub const EDGES: usize = limits::MAX_LINKS * EDGE_ROW;
 
 // Edge i of link l: 0, then the cuts, then cap.
 fn edge_at(s: &[u8], o: usize, l: usize, i: usize) -> usize
-    requires { (o ≤ start_bound) × (o ≡ gridAt s.now l) × (l < maxLinks) × (i < edgeRow) }
+    requires { (o ≤ start_bound) × (o ≡ grid_at s.now l) × (l < max_links) × (i < edge_row) }
     ensures { result ≡ edge_of s.now l i }
 {
     if i == 0 {
@@ -30,7 +30,7 @@ fn edge_at(s: &[u8], o: usize, l: usize, i: usize) -> usize
 
 // Sixteen edges a link.
 pub fn edges_of(s: &[u8], places: &[usize; limits::MAX_LINKS], links: usize) -> [usize; EDGES]
-    requires { Readable s.now × PlacesOf s.now places.now × (links ≡ linksOf s.now) }
+    requires { Readable s.now × PlacesOf s.now places.now × (links ≡ links_of s.now) }
     ensures { EdgesOf s.now result }
 {
     let mut edges = [0; EDGES];
@@ -47,7 +47,7 @@ pub fn counts_of(
     places: &[usize; limits::MAX_LINKS],
     links: usize,
 ) -> [usize; limits::MAX_LINKS]
-    requires { Readable s.now × PlacesOf s.now places.now × (links ≡ linksOf s.now) }
+    requires { Readable s.now × PlacesOf s.now places.now × (links ≡ links_of s.now) }
     ensures { CountsOf s.now result }
 {
     let mut counts = [1; limits::MAX_LINKS];

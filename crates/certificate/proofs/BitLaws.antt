@@ -25,12 +25,12 @@ halved m q = go (eqb (q % 2) 1) refl
         ap (λ (k : ℕ). m * k) whole ∙ rw (← mul_assoc m 2 (q / 2)) (omega arith)
 
 -- the first n bits, and the rest
-bits-so-far : (n x : ℕ) → sum_to n (λ i. pick (bit_of x i) (2 ^ i) 0) + 2 ^ n * (x / 2 ^ n) ≡ x
+bits_so_far : (n x : ℕ) → sum_to n (λ i. pick (bit_of x i) (2 ^ i) 0) + 2 ^ n * (x / 2 ^ n) ≡ x
 unfolding sum_to bit_of
-bits-so-far zero x = omega (arith, div-one x)
-bits-so-far (suc n) x =
+bits_so_far zero x = omega (arith, div-one x)
+bits_so_far (suc n) x =
     let half : x / 2 ^ n / 2 ≡ x / (2 ^ n * 2) = div-div-eq-div-mul x (2 ^ n) 2 in
-    rw (pow-suc, ← half) (omega (arith, bits-so-far n x, halved (2 ^ n) (x / 2 ^ n)))
+    rw (pow-suc, ← half) (omega (arith, bits_so_far n x, halved (2 ^ n) (x / 2 ^ n)))
 
 pub bits_are : BitsAre
-bits_are n x lt = omega (arith, bits-so-far n x, ap (λ (k : ℕ). 2 ^ n * k) (div-eq_of_lt lt) ∙ mul-zero (2 ^ n))
+bits_are n x lt = omega (arith, bits_so_far n x, ap (λ (k : ℕ). 2 ^ n * k) (div-eq_of_lt lt) ∙ mul-zero (2 ^ n))

@@ -7,53 +7,53 @@ use mathlib.Core.Logic.{◌⊎◌, inl, inr, ⊎_elim}
 use native.Mathlib.Omega.{arith}
 use borrow.Author.Tests.{eq-eqb, ne_eqb, eqb-true}
 use lib.Dec.{eqb}
-use Rattle.certificate.specs.Loops.{pick, greatestTo}
-use Rattle.certificate.specs.Layout.{plainModeSize, goalModeSize, kindByteOf, remembers, takesTurns, linksOf, modesOf, link_size, startFlowOf, modeRecordsOf, modesStart, modeSize, goalNumberOf, goalFor, greatestGoal, nextGoal, gridStart, rank_of}
-use Rattle.certificate.specs.Records.{passesOn, turnsOn}
+use Rattle.certificate.specs.Loops.{pick, greatest_to}
+use Rattle.certificate.specs.Layout.{plain_mode_size, goal_mode_size, kind_byte_of, remembers, takes_turns, links_of, modes_of, link_size, start_flow_of, mode_records_of, modes_start, mode_size, goal_number_of, goal_for, greatest_goal, next_goal, grid_start, rank_of}
+use Rattle.certificate.specs.Records.{passes_on, turns_on}
 use Rattle.certificate.specs.Facts.{Mark, HeaderMark}
 use Rattle.certificate.specs.Laws.{KindIsMark, TurnsRemember, PlainLayout, OneGoalLayout}
 
-pub kind-is-mark : KindIsMark
-unfolding remembers takesTurns
-kind-is-mark s R = by-mark R.header.mark
+pub kind_is_mark : KindIsMark
+unfolding remembers takes_turns
+kind_is_mark s R = by_mark R.header.mark
   where
     -- the second byte of the mark says the kind
-    by-mark : HeaderMark s
-        → (Mark s 0 72 68 × (remembers s ≡ false) × (takesTurns s ≡ false))
-        ⊎ (Mark s 0 72 50 × (remembers s ≡ true) × (takesTurns s ≡ false))
-        ⊎ (Mark s 0 72 51 × (remembers s ≡ true) × (takesTurns s ≡ true))
-    by-mark (inl m) = inl (m, rw m.second, rw m.second)
-    by-mark (inr (inl m)) = inr (inl (m, rw m.second, rw m.second))
-    by-mark (inr (inr m)) = inr (inr (m, rw m.second, rw m.second))
+    by_mark : HeaderMark s
+        → (Mark s 0 72 68 × (remembers s ≡ false) × (takes_turns s ≡ false))
+        ⊎ (Mark s 0 72 50 × (remembers s ≡ true) × (takes_turns s ≡ false))
+        ⊎ (Mark s 0 72 51 × (remembers s ≡ true) × (takes_turns s ≡ true))
+    by_mark (inl m) = inl (m, rw m.second, rw m.second)
+    by_mark (inr (inl m)) = inr (inl (m, rw m.second, rw m.second))
+    by_mark (inr (inr m)) = inr (inr (m, rw m.second, rw m.second))
 
-pub turns-remember : TurnsRemember
-unfolding remembers takesTurns
-turns-remember s e = rw (eqb-true (kindByteOf s) 51 e)
+pub turns_remember : TurnsRemember
+unfolding remembers takes_turns
+turns_remember s e = rw (eqb-true (kind_byte_of s) 51 e)
 
-pub plain-layout : PlainLayout
-unfolding link_size startFlowOf gridStart modeRecordsOf modesStart passesOn
-plain-layout s plain =
+pub plain_layout : PlainLayout
+unfolding link_size start_flow_of grid_start mode_records_of modes_start passes_on
+plain_layout s plain =
     record {
       link = λ l. rw plain;
-      start-flow = λ l. rw plain;
+      start_flow = λ l. rw plain;
       grid = rw plain (omega arith);
-      passes_on = λ e. rw plain;
+      passes_on_fact = λ e. rw plain;
     }
 
 -- no number is above 0 where all are 0
-pub none-greater : (n : ℕ) (f : ℕ → ℕ) → ((k : ℕ) → f k ≡ 0) → greatestTo n f ≡ 0
-unfolding greatestTo
-none-greater zero f all = refl
-none-greater (suc n) f all = rw (none-greater n f all, all n)
+pub none_greater : (n : ℕ) (f : ℕ → ℕ) → ((k : ℕ) → f k ≡ 0) → greatest_to n f ≡ 0
+unfolding greatest_to
+none_greater zero f all = refl
+none_greater (suc n) f all = rw (none_greater n f all, all n)
 
-pub one-goal-layout : OneGoalLayout
-unfolding modeSize goalNumberOf goalFor turnsOn nextGoal greatestGoal
-one-goal-layout s one =
+pub one_goal_layout : OneGoalLayout
+unfolding mode_size goal_number_of goal_for turns_on next_goal greatest_goal
+one_goal_layout s one =
     record {
       size = rw one;
       number = λ m. rw one;
       goal = λ m l. rw one;
-      turns-on = λ e. rw (one, none-greater (modesOf s) (goalNumberOf s) (λ k. rw one)) (same (eqb (rank_of s e) 0));
+      turns_on_fact = λ e. rw (one, none_greater (modes_of s) (goal_number_of s) (λ k. rw one)) (same (eqb (rank_of s e) 0));
     }
   where
     same : (b : Bool) → eqb 0 (pick b 0 0) ≡ true
@@ -61,18 +61,18 @@ one-goal-layout s one =
     same false = refl
 
 -- the size of an MD tells whether it has goals
-sized : (b : Bool) (links : ℕ) → (pick b (goalModeSize links) plainModeSize ≡ plainModeSize → ⊥) → b ≡ true
+sized : (b : Bool) (links : ℕ) → (pick b (goal_mode_size links) plain_mode_size ≡ plain_mode_size → ⊥) → b ≡ true
 sized true links other = refl
 sized false links other = absurd (other refl)
 
-pub other-size : (s : List ℕ) → (modeSize s ≡ plainModeSize → ⊥) → takesTurns s ≡ true
-unfolding modeSize
-other-size s other = sized (takesTurns s) (linksOf s) other
+pub other_size : (s : List ℕ) → (mode_size s ≡ plain_mode_size → ⊥) → takes_turns s ≡ true
+unfolding mode_size
+other_size s other = sized (takes_turns s) (links_of s) other
 
-plain-sized : (b : Bool) (links : ℕ) → pick b (goalModeSize links) plainModeSize ≡ plainModeSize → b ≡ false
-plain-sized true links e = absurd (omega arith)
-plain-sized false links e = refl
+plain_sized : (b : Bool) (links : ℕ) → pick b (goal_mode_size links) plain_mode_size ≡ plain_mode_size → b ≡ false
+plain_sized true links e = absurd (omega arith)
+plain_sized false links e = refl
 
-pub plain_size : (s : List ℕ) → modeSize s ≡ plainModeSize → takesTurns s ≡ false
-unfolding modeSize
-plain_size s e = plain-sized (takesTurns s) (linksOf s) e
+pub plain_size : (s : List ℕ) → mode_size s ≡ plain_mode_size → takes_turns s ≡ false
+unfolding mode_size
+plain_size s e = plain_sized (takes_turns s) (links_of s) e

@@ -2,8 +2,8 @@
 use mathlib.Core.Path.{refl}
 use Rattle.certificate.specs.Laws.{LimitsAre}
 
-pub limits-are : LimitsAre
-limits-are =
+pub limits_are : LimitsAre
+limits_are =
     record {
       links = refl;
       turns = refl;
@@ -18,7 +18,7 @@ limits-are =
       arrival = refl;
       intervals = refl;
       cells = refl;
-      goal-number = refl;
+      goal_number = refl;
       scale = refl;
       length = refl;
     }

@@ -7,37 +7,37 @@ use native.Mathlib.Omega.{arith}
 use Rattle.certificate.specs.declared.Report.{Report}
 use Rattle.certificate.specs.Reading.{reading_of}
 use Rattle.certificate.specs.Due.{Kind}
-use Rattle.certificate.specs.Laws.{ReadingNumber, up-to-nine, of-order, of-memory, of-goal, ReadingNumbers}
+use Rattle.certificate.specs.Laws.{ReadingNumber, up_to_nine, of_order, of_memory, of_goal, ReadingNumbers}
 use Rattle.certificate.proofs.Tests.{passes}
-use Rattle.certificate.proofs.Plain.{reading-is-fine}
-use Rattle.certificate.proofs.FieldTests.{test-number}
-use Rattle.certificate.proofs.Faults.{Fault, too_short, wrong-mark, breaks}
-use Rattle.certificate.proofs.FirstFault.{first-fault}
+use Rattle.certificate.proofs.Plain.{reading_is_fine}
+use Rattle.certificate.proofs.FieldTests.{test_number_lem}
+use Rattle.certificate.proofs.Faults.{Fault, too_short, wrong_mark, breaks}
+use Rattle.certificate.proofs.FirstFault.{first_fault}
 
 -- a result with a number of reading, and no count
 pub record OfReading (r : Report) : Type 0 where
   pub number : ReadingNumber r.number
-  pub no-count : r.count ≡ 0
+  pub no_count : r.count ≡ 0
 
 -- no number of reading is one of the stages after it, 10 to 15; said so that omega reads it
-pub reading-apart : (n : ℕ) → ReadingNumber n → min (n - 9) (16 - n) ≡ 0
-reading-apart n (up-to-nine h) = omega arith
-reading-apart n (of-order e) = omega arith
-reading-apart n (of-memory e) = omega arith
-reading-apart n (of-goal e) = omega arith
+pub reading_apart : (n : ℕ) → ReadingNumber n → min (n - 9) (16 - n) ≡ 0
+reading_apart n (up_to_nine h) = omega arith
+reading_apart n (of_order e) = omega arith
+reading_apart n (of_memory e) = omega arith
+reading_apart n (of_goal e) = omega arith
 
 -- the refusal of a record
-of-fault : (s : List ℕ) (k : Kind) (i : ℕ) (r : Report) → Fault s k i r → OfReading r
-of-fault s k i r (too_short f e) = rw e (record { number = up-to-nine (omega arith); no-count = refl })
-of-fault s k i r (wrong-mark f e) = rw e (record { number = up-to-nine (omega arith); no-count = refl })
-of-fault s k i r (breaks t same f e) = rw e (record { number = test-number t; no-count = refl })
+of_fault : (s : List ℕ) (k : Kind) (i : ℕ) (r : Report) → Fault s k i r → OfReading r
+of_fault s k i r (too_short f e) = rw e (record { number = up_to_nine (omega arith); no_count = refl })
+of_fault s k i r (wrong_mark f e) = rw e (record { number = up_to_nine (omega arith); no_count = refl })
+of_fault s k i r (breaks t same f e) = rw e (record { number = test_number_lem t; no_count = refl })
 
-pub of-reading : (s : List ℕ) → OfReading (reading_of s)
-of-reading s =
+pub of_reading : (s : List ℕ) → OfReading (reading_of s)
+of_reading s =
     ⊎_elim
-    (λ (z : (reading_of s).number ≡ 0). rw (reading-is-fine s z) (record { number = up-to-nine (omega arith); no-count = refl }))
-    (λ bad. let f = first-fault s bad in of-fault s _ _ _ f.fault)
+    (λ (z : (reading_of s).number ≡ 0). rw (reading_is_fine s z) (record { number = up_to_nine (omega arith); no_count = refl }))
+    (λ bad. let f = first_fault s bad in of_fault s _ _ _ f.fault)
     (passes (reading_of s))
 
-pub reading-numbers : ReadingNumbers
-reading-numbers s = (of-reading s).number
+pub reading_numbers : ReadingNumbers
+reading_numbers s = (of_reading s).number

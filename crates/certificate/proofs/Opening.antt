@@ -10,7 +10,7 @@ use lib.Dec.{leb}
 use Rattle.certificate.specs.declared.Report.{Report}
 use Rattle.certificate.specs.Checks.{refusal, fine, need, marked, opened}
 use Rattle.certificate.specs.Facts.{Mark}
-use Rattle.certificate.proofs.Says.{marked-says}
+use Rattle.certificate.proofs.Says.{marked_says}
 
 -- r is what a record of that size at o answers as it opens, where M says that its mark is right
 pub data Opening (s : List ℕ) (o : ℕ) (M : Type 0) (size : ℕ) (r : Report) : Type 0 where
@@ -35,5 +35,5 @@ opening s o size mark {M} says = go (leb (o + 2) (length s)) refl mark refl (leb
     go true p true q true w = opens (says.0 q) (leb-true _ _ w) refl
 
 -- a record of one mark
-pub marked-opening : (s : List ℕ) (o m k size : ℕ) → Opening s o (Mark s o m k) size (opened s o (marked s o m k) size)
-marked-opening s o m k size = opening s o size (marked s o m k) (marked-says s o m k)
+pub marked_opening : (s : List ℕ) (o m k size : ℕ) → Opening s o (Mark s o m k) size (opened s o (marked s o m k) size)
+marked_opening s o m k size = opening s o size (marked s o m k) (marked_says s o m k)

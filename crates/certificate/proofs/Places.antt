@@ -8,14 +8,14 @@ use native.Mathlib.Nat.{mul-suc}
 use native.Mathlib.Omega.{arith}
 use lib.ListN.{length}
 use Rattle.certificate.specs.declared.Report.{Report}
-use Rattle.certificate.specs.Checks.{refusal, fine, need, or_else, firstBad, opened}
-use Rattle.certificate.specs.Layout.{headerSize, endSize, linksOf, turnsOf, signalsOf, boxesOf, entriesOf, link_at, turnsStart, turnAt, signalsStart, signalAt, modeRecordsOf, modesStart, modeAt, gridStart, gridAt, arrivalsStart, arrivalAt, entriesStart, entry_at, end_at}
-use Rattle.certificate.specs.Records.{headerFault, linkFault, turnFault, signalFault, modeFault, cutFault, gridFault, rangeFault, arrivalFault, entryFault, endFault}
-use Rattle.certificate.specs.Reading.{linksFault, turnsFault, signalsFault, modesFault, gridsFault, arrivalsFault, entriesFault, reading_of}
+use Rattle.certificate.specs.Checks.{refusal, fine, need, or_else, first_bad, opened}
+use Rattle.certificate.specs.Layout.{header_size, end_size, links_of, turns_of, signals_of, boxes_of, entries_of, link_at, turns_start, turn_at, signals_start, signal_at, mode_records_of, modes_start, mode_at, grid_start, grid_at, arrivals_start, arrival_at, entries_start, entry_at, end_at}
+use Rattle.certificate.specs.Records.{header_fault, link_fault, turn_fault, signal_fault, mode_fault, cut_fault, grid_fault, range_fault, arrival_fault, entry_fault, end_fault}
+use Rattle.certificate.specs.Reading.{links_fault, turns_fault, signals_fault, modes_fault, grids_fault, arrivals_fault, entries_fault, reading_of}
 use Rattle.certificate.specs.Laws.{PlaceFits}
-use Rattle.certificate.proofs.Tests.{or-next, or-stop, passes, all-fine, fine-all, first-bad}
-use Rattle.certificate.proofs.Says.{opened-says}
-use Rattle.certificate.proofs.Records.{header-says, link-says, turn-says, signal-says, mode-says, grid-says, box-says, entry-says}
+use Rattle.certificate.proofs.Tests.{or_next, or_stop, passes, all_fine, fine_all, first_bad_lem}
+use Rattle.certificate.proofs.Says.{opened_says}
+use Rattle.certificate.proofs.Records.{header_says, link_says, turn_says, signal_says, mode_says, grid_says, box_says, entry_says}
 
 -- place A is at most n, and there is no place B
 record Fits (n : ℕ) (r : Report) : Type 0 where
@@ -23,120 +23,120 @@ record Fits (n : ℕ) (r : Report) : Type 0 where
   alone : r.b ≡ 0
 
 module _ (n : ℕ) where
-  need-fits : {bad next : Report} (b : Bool) → Fits n bad → Fits n next → Fits n (need b bad next)
+  need_fits : {bad next : Report} (b : Bool) → Fits n bad → Fits n next → Fits n (need b bad next)
   unfolding need
-  need-fits true p q = q
-  need-fits false p q = p
+  need_fits true p q = q
+  need_fits false p q = p
 
-  or-fits : {f g : Report} → Fits n f → (f.number ≡ 0 → Fits n g) → Fits n (or_else f g)
-  or-fits {f} {g} p q = ⊎_elim (λ z. rw (or-next f g z) (q z)) (λ bad. rw (or-stop f g bad) p) (passes f)
+  or_fits : {f g : Report} → Fits n f → (f.number ≡ 0 → Fits n g) → Fits n (or_else f g)
+  or_fits {f} {g} p q = ⊎_elim (λ z. rw (or_next f g z) (q z)) (λ bad. rw (or_stop f g bad) p) (passes f)
 
-  refusal-fits : (k o : ℕ) → o ≤ n → Fits n (refusal k o)
-  refusal-fits k o h = record { place = h; alone = refl }
+  refusal_fits : (k o : ℕ) → o ≤ n → Fits n (refusal k o)
+  refusal_fits k o h = record { place = h; alone = refl }
 
   test_fits : (b : Bool) (k o : ℕ) → o ≤ n → Fits n (need b (refusal k o) fine)
-  test_fits b k o h = need-fits b (refusal-fits k o h) (refusal-fits 0 0 (omega arith))
+  test_fits b k o h = need_fits b (refusal_fits k o h) (refusal_fits 0 0 (omega arith))
 
   -- a loop whose tests have fitting places once those before them pass
-  first_fits : (m : ℕ) (f : ℕ → Report) → ((k : ℕ) → k < m → ((j : ℕ) → j < k → (f j).number ≡ 0) → Fits n (f k)) → Fits n (firstBad m f)
-  first_fits m f h = ⊎_elim (λ z. rw (fine-all m f (all-fine m f z)) (refusal-fits 0 0 (omega arith))) refuses (passes (firstBad m f))
+  first_fits : (m : ℕ) (f : ℕ → Report) → ((k : ℕ) → k < m → ((j : ℕ) → j < k → (f j).number ≡ 0) → Fits n (f k)) → Fits n (first_bad m f)
+  first_fits m f h = ⊎_elim (λ z. rw (fine_all m f (all_fine m f z)) (refusal_fits 0 0 (omega arith))) refuses (passes (first_bad m f))
     where
-      refuses : ((firstBad m f).number ≡ 0 → ⊥) → Fits n (firstBad m f)
-      refuses bad = let b = first-bad m f bad in rw (sym b.answer) (h b.at b.inside b.before)
+      refuses : ((first_bad m f).number ≡ 0 → ⊥) → Fits n (first_bad m f)
+      refuses bad = let b = first_bad_lem m f bad in rw (sym b.answer) (h b.at b.inside b.before)
 
   -- tests whose places fit, after which the offset o fits too
   record Stretch (f : Report) (o : ℕ) : Type 0 where
     fits : Fits n f
     after : f.number ≡ 0 → o ≤ n
 
-  stretch-then : {f g : Report} {o : ℕ} → Stretch f o → (o ≤ n → Fits n g) → Fits n (or_else f g)
-  stretch-then p q = or-fits p.fits (λ z. q (p.after z))
+  stretch_then : {f g : Report} {o : ℕ} → Stretch f o → (o ≤ n → Fits n g) → Fits n (or_else f g)
+  stretch_then p q = or_fits p.fits (λ z. q (p.after z))
 
   -- records one after another: each starts within the length once the one before it passes
-  records-fit : (m : ℕ) (f : ℕ → Report) (at : ℕ → ℕ) → at 0 ≤ n → ((k : ℕ) → (f k).number ≡ 0 → at (suc k) ≤ n)
-      → ((k : ℕ) → at k ≤ n → Fits n (f k)) → Stretch (firstBad m f) (at m)
-  records-fit m f at start next here = record { fits = first_fits m f (λ k lt before. here k (reached k before)); after = λ z. reached m (all-fine m f z) }
+  records_fit : (m : ℕ) (f : ℕ → Report) (at : ℕ → ℕ) → at 0 ≤ n → ((k : ℕ) → (f k).number ≡ 0 → at (suc k) ≤ n)
+      → ((k : ℕ) → at k ≤ n → Fits n (f k)) → Stretch (first_bad m f) (at m)
+  records_fit m f at start next here = record { fits = first_fits m f (λ k lt before. here k (reached k before)); after = λ z. reached m (all_fine m f z) }
     where
       reached : (k : ℕ) → ((j : ℕ) → j < k → (f j).number ≡ 0) → at k ≤ n
       reached zero before = start
       reached (suc k) before = next k (before k (omega arith))
 
 module _ (s : List ℕ) where
-  opened-fits : (o : ℕ) (mark : Bool) (size : ℕ) → o ≤ length s → Fits (length s) (opened s o mark size)
+  opened_fits : (o : ℕ) (mark : Bool) (size : ℕ) → o ≤ length s → Fits (length s) (opened s o mark size)
   unfolding opened
-  opened-fits o mark size h =
-      need-fits _ _ (refusal-fits _ 1 o h) (need-fits _ _ (refusal-fits _ 2 o h) (test_fits _ _ 1 o h))
+  opened_fits o mark size h =
+      need_fits _ _ (refusal_fits _ 1 o h) (need_fits _ _ (refusal_fits _ 2 o h) (test_fits _ _ 1 o h))
 
   -- a record at o that is opened and then tested
-  record-fits : (o : ℕ) (mark : Bool) (size : ℕ) (b : Bool) (number : ℕ) → o ≤ length s → Fits (length s) (or_else (opened s o mark size) (need b (refusal number o) fine))
-  record-fits o mark size b number h = or-fits _ (opened-fits o mark size h) (λ _. test_fits _ b number o h)
+  record_fits : (o : ℕ) (mark : Bool) (size : ℕ) (b : Bool) (number : ℕ) → o ≤ length s → Fits (length s) (or_else (opened s o mark size) (need b (refusal number o) fine))
+  record_fits o mark size b number h = or_fits _ (opened_fits o mark size h) (λ _. test_fits _ b number o h)
 
-  grid-fits : (l : ℕ) → gridAt s l ≤ length s → Fits (length s) (gridFault s l)
-  unfolding gridFault cutFault
-  grid-fits l h =
-      or-fits _ (opened-fits _ _ _ h) (λ _.
-      need-fits _ _ (refusal-fits _ 7 _ h)
-      (need-fits _ _ (refusal-fits _ 1 _ h)
+  grid_fits : (l : ℕ) → grid_at s l ≤ length s → Fits (length s) (grid_fault s l)
+  unfolding grid_fault cut_fault
+  grid_fits l h =
+      or_fits _ (opened_fits _ _ _ h) (λ _.
+      need_fits _ _ (refusal_fits _ 7 _ h)
+      (need_fits _ _ (refusal_fits _ 1 _ h)
       (first_fits _ _ _ (λ i _ _. test_fits _ _ 7 _ h))))
 
-  box-fits : (b : ℕ) → arrivalAt s b ≤ length s → Fits (length s) (arrivalFault s b)
-  unfolding arrivalFault rangeFault
-  box-fits b h = or-fits _ (opened-fits _ _ _ h) (λ _. first_fits _ _ _ (λ l _ _. test_fits _ _ 8 _ h))
+  box_fits : (b : ℕ) → arrival_at s b ≤ length s → Fits (length s) (arrival_fault s b)
+  unfolding arrival_fault range_fault
+  box_fits b h = or_fits _ (opened_fits _ _ _ h) (λ _. first_fits _ _ _ (λ l _ _. test_fits _ _ 8 _ h))
 
-  header-fits : Stretch (length s) (headerFault s) headerSize
-  unfolding headerFault
-  header-fits = record { fits = record-fits 0 _ _ _ _ (omega arith); after = λ z. omega (arith, ((header-says s).0 z).0) }
+  header_fits : Stretch (length s) (header_fault s) header_size
+  unfolding header_fault
+  header_fits = record { fits = record_fits 0 _ _ _ _ (omega arith); after = λ z. omega (arith, ((header_says s).0 z).0) }
 
-  links-fit : headerSize ≤ length s → Stretch (length s) (linksFault s) (turnsStart s)
-  unfolding linksFault linkFault turnsStart
-  links-fit h =
-      records-fit _ (linksOf s) (linkFault s) (link_at s) (omega arith) (λ l z. rw mul-suc (omega (arith, ((link-says s l).0 z).0))) (λ l. record-fits (link_at s l) _ _ _ _)
+  links_fit : header_size ≤ length s → Stretch (length s) (links_fault s) (turns_start s)
+  unfolding links_fault link_fault turns_start
+  links_fit h =
+      records_fit _ (links_of s) (link_fault s) (link_at s) (omega arith) (λ l z. rw mul-suc (omega (arith, ((link_says s l).0 z).0))) (λ l. record_fits (link_at s l) _ _ _ _)
 
-  turns_fit : turnsStart s ≤ length s → Stretch (length s) (turnsFault s) (signalsStart s)
-  unfolding turnsFault turnFault signalsStart
+  turns_fit : turns_start s ≤ length s → Stretch (length s) (turns_fault s) (signals_start s)
+  unfolding turns_fault turn_fault signals_start
   turns_fit h =
-      records-fit _ (turnsOf s) (turnFault s) (turnAt s) (omega arith) (λ t z. omega (arith, ((turn-says s t).0 z).0)) (λ t. record-fits (turnAt s t) _ _ _ _)
+      records_fit _ (turns_of s) (turn_fault s) (turn_at s) (omega arith) (λ t z. omega (arith, ((turn_says s t).0 z).0)) (λ t. record_fits (turn_at s t) _ _ _ _)
 
-  signals-fit : signalsStart s ≤ length s → Stretch (length s) (signalsFault s) (modesStart s)
-  unfolding signalsFault signalFault modesStart
-  signals-fit h =
-      records-fit _ (signalsOf s) (signalFault s) (signalAt s) (omega arith) (λ g z. omega (arith, ((signal-says s g).0 z).0)) (λ g. record-fits (signalAt s g) _ _ _ _)
+  signals_fit : signals_start s ≤ length s → Stretch (length s) (signals_fault s) (modes_start s)
+  unfolding signals_fault signal_fault modes_start
+  signals_fit h =
+      records_fit _ (signals_of s) (signal_fault s) (signal_at s) (omega arith) (λ g z. omega (arith, ((signal_says s g).0 z).0)) (λ g. record_fits (signal_at s g) _ _ _ _)
 
-  modes-fit : modesStart s ≤ length s → Stretch (length s) (modesFault s) (gridStart s)
-  unfolding modesFault modeFault gridStart
-  modes-fit h =
-      records-fit _ (modeRecordsOf s) (modeFault s) (modeAt s) (omega arith) (λ m z. rw mul-suc (omega (arith, ((mode-says s m).0 z).0))) (λ m. record-fits (modeAt s m) _ _ _ _)
+  modes_fit : modes_start s ≤ length s → Stretch (length s) (modes_fault s) (grid_start s)
+  unfolding modes_fault mode_fault grid_start
+  modes_fit h =
+      records_fit _ (mode_records_of s) (mode_fault s) (mode_at s) (omega arith) (λ m z. rw mul-suc (omega (arith, ((mode_says s m).0 z).0))) (λ m. record_fits (mode_at s m) _ _ _ _)
 
-  grids-fit : gridStart s ≤ length s → Stretch (length s) (gridsFault s) (arrivalsStart s)
-  unfolding gridsFault arrivalsStart gridAt
-  grids-fit h = records-fit _ (linksOf s) (gridFault s) (gridAt s) h (λ l z. ((grid-says s l).0 z).0) grid-fits
+  grids_fit : grid_start s ≤ length s → Stretch (length s) (grids_fault s) (arrivals_start s)
+  unfolding grids_fault arrivals_start grid_at
+  grids_fit h = records_fit _ (links_of s) (grid_fault s) (grid_at s) h (λ l z. ((grid_says s l).0 z).0) grid_fits
 
-  boxes-fit : arrivalsStart s ≤ length s → Stretch (length s) (arrivalsFault s) (entriesStart s)
-  unfolding arrivalsFault entriesStart
-  boxes-fit h =
-      records-fit _ (boxesOf s) (arrivalFault s) (arrivalAt s) (omega arith) (λ b z. rw mul-suc (omega (arith, ((box-says s b).0 z).0))) box-fits
+  boxes_fit : arrivals_start s ≤ length s → Stretch (length s) (arrivals_fault s) (entries_start s)
+  unfolding arrivals_fault entries_start
+  boxes_fit h =
+      records_fit _ (boxes_of s) (arrival_fault s) (arrival_at s) (omega arith) (λ b z. rw mul-suc (omega (arith, ((box_says s b).0 z).0))) box_fits
 
-  entries_fit : entriesStart s ≤ length s → Stretch (length s) (entriesFault s) (end_at s)
-  unfolding entriesFault entryFault end_at
+  entries_fit : entries_start s ≤ length s → Stretch (length s) (entries_fault s) (end_at s)
+  unfolding entries_fault entry_fault end_at
   entries_fit h =
-      records-fit _ (entriesOf s) (entryFault s) (entry_at s) (omega arith) (λ e z. omega (arith, ((entry-says s e).0 z).0))
-      (λ e h. or-fits _ (opened-fits _ _ _ h) (λ _. need-fits _ _ (refusal-fits _ _ _ h) (need-fits _ _ (refusal-fits _ _ _ h) (need-fits _ _ (refusal-fits _ _ _ h) (test_fits _ _ _ _ h)))))
+      records_fit _ (entries_of s) (entry_fault s) (entry_at s) (omega arith) (λ e z. omega (arith, ((entry_says s e).0 z).0))
+      (λ e h. or_fits _ (opened_fits _ _ _ h) (λ _. need_fits _ _ (refusal_fits _ _ _ h) (need_fits _ _ (refusal_fits _ _ _ h) (need_fits _ _ (refusal_fits _ _ _ h) (test_fits _ _ _ _ h)))))
 
-  end_fits : end_at s ≤ length s → Fits (length s) (endFault s)
-  unfolding endFault
-  end_fits h = or-fits _ (opened-fits _ _ _ h) (λ z. test_fits _ _ 2 _ ((opened-says s (end_at s) _ endSize refl).0 z).0)
+  end_fits : end_at s ≤ length s → Fits (length s) (end_fault s)
+  unfolding end_fault
+  end_fits h = or_fits _ (opened_fits _ _ _ h) (λ z. test_fits _ _ 2 _ ((opened_says s (end_at s) _ end_size refl).0 z).0)
 
-  reading-fits : Fits (length s) (reading_of s)
+  reading_fits : Fits (length s) (reading_of s)
   unfolding reading_of
-  reading-fits =
-      stretch-then _ header-fits (λ h.
-      stretch-then _ (links-fit h) (λ h.
-      stretch-then _ (turns_fit h) (λ h.
-      stretch-then _ (signals-fit h) (λ h.
-      stretch-then _ (modes-fit h) (λ h.
-      stretch-then _ (grids-fit h) (λ h.
-      stretch-then _ (boxes-fit h) (λ h.
-      stretch-then _ (entries_fit h) end_fits)))))))
+  reading_fits =
+      stretch_then _ header_fits (λ h.
+      stretch_then _ (links_fit h) (λ h.
+      stretch_then _ (turns_fit h) (λ h.
+      stretch_then _ (signals_fit h) (λ h.
+      stretch_then _ (modes_fit h) (λ h.
+      stretch_then _ (grids_fit h) (λ h.
+      stretch_then _ (boxes_fit h) (λ h.
+      stretch_then _ (entries_fit h) end_fits)))))))
 
-pub place-fits : PlaceFits
-place-fits s = let f = reading-fits s in (f.place, f.alone)
+pub place_fits : PlaceFits
+place_fits s = let f = reading_fits s in (f.place, f.alone)

@@ -26,6 +26,6 @@ module _ (link share : ℕ → ℕ) (m : ℕ) where
       go true e rest = rw e at (rw (eqb-true (link n) l e, add-one) at (h n (omega arith)))
       go false e rest = omega arith
 
-  pub totals-say : (n : ℕ) → ((t : ℕ) → t < n → total link share (link t) (t + 1) ≤ m) ↔ ((l : ℕ) → total link share l n ≤ m)
+  pub totals_say : (n : ℕ) → ((t : ℕ) → t < n → total link share (link t) (t + 1) ≤ m) ↔ ((l : ℕ) → total link share l n ≤ m)
   unfolding sum_to
-  totals-say n = (λ h l. whole n l h, λ h t lt. le_trans (grows (total link share (link t)) (λ k. omega arith) (t + 1) n (omega arith)) (h (link t)))
+  totals_say n = (λ h l. whole n l h, λ h t lt. le_trans (grows (total link share (link t)) (λ k. omega arith) (t + 1) n (omega arith)) (h (link t)))

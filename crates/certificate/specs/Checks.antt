@@ -4,12 +4,12 @@ use Rattle.certificate.specs.declared.Report.{Report}
 use Rattle.certificate.specs.Octets.{byte_at}
 
 -- a result (document 01: number, places A and B, count)
-abbrev pub result : ℕ → ℕ → ℕ → ℕ → Report
-result number a b count = record { number = number; a = a; b = b; count = count }
+abbrev pub report_with : ℕ → ℕ → ℕ → ℕ → Report
+report_with number a b count = record { number = number; a = a; b = b; count = count }
 
 -- a refusal (document 01: turned back) that names place A alone; places and counts that are not named are 0
 abbrev pub refusal : ℕ → ℕ → Report
-refusal number a = result number a 0 0
+refusal number a = report_with number a 0 0
 
 -- success: number 0
 abbrev pub fine : Report
@@ -29,12 +29,12 @@ first_of f zero i = fine
 first_of f (suc k) i = or_else (f i) (first_of f k (i + 1))
 
 -- the first refusal among the tests i .. n - 1
-unfoldable pub firstFrom : ℕ → (ℕ → Report) → ℕ → Report
-firstFrom n f i = first_of f (n - i) i
+unfoldable pub first_from : ℕ → (ℕ → Report) → ℕ → Report
+first_from n f i = first_of f (n - i) i
 
 -- the first refusal among the tests 0 .. n - 1
-abbrev pub firstBad : ℕ → (ℕ → Report) → Report
-firstBad n f = firstFrom n f 0
+abbrev pub first_bad : ℕ → (ℕ → Report) → Report
+first_bad n f = first_from n f 0
 
 -- the two-byte mark at offset o is m and k, in ASCII
 unfoldable pub marked : List ℕ → ℕ → ℕ → ℕ → Bool

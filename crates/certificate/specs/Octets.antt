@@ -7,8 +7,8 @@ abbrev pub byte_at : List ℕ → ℕ → ℕ
 byte_at s o = get_or s o 0
 
 -- a two-byte number (document 01: u16), high byte first
-abbrev pub u16At : List ℕ → ℕ → ℕ
-u16At s o = byte_at s o * 256 + byte_at s (o + 1)
+abbrev pub u16_at : List ℕ → ℕ → ℕ
+u16_at s o = byte_at s o * 256 + byte_at s (o + 1)
 
 -- bit i of a byte, of value 2 to the i, is set
 unfoldable pub bit_of : ℕ → ℕ → Bool

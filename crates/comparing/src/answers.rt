@@ -1,13 +1,13 @@
 // The answer of a comparison, put together and taken apart.
 ghost use Rattle.std.specs.Prelude.{◌≡◌};
-ghost use Rattle.covering.specs.Comparing.{betterOf, reportOf, betterNumber};
+ghost use Rattle.covering.specs.Comparing.{better_of, report_of, better_number};
 
 use certificate::Report;
 use covering::Comparison;
 
 // The answer by which of the two covers the other.
 pub fn better(first: bool, second: bool) -> Comparison
-    ensures { result ≡ betterOf first second }
+    ensures { result ≡ better_of first second }
 {
     if first {
         if second {
@@ -23,7 +23,7 @@ pub fn better(first: bool, second: bool) -> Comparison
 
 // Its number, places and count.
 pub fn report_of(found: Comparison) -> Report
-    ensures { result ≡ reportOf found }
+    ensures { result ≡ report_of found }
 {
     match found {
         Comparison::Equal => octets::accept(),
@@ -36,7 +36,7 @@ pub fn report_of(found: Comparison) -> Report
 
 // Which of the two is better, as a number: 1 each of them, 2 the first, 3 the second, 4 neither; 0 with a refusal.
 pub fn better_number(found: Comparison) -> u32
-    ensures { result ≡ betterNumber found }
+    ensures { result ≡ better_number found }
 {
     match found {
         Comparison::Equal => 1,

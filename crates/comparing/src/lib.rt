@@ -3,7 +3,7 @@ ghost use Rattle.std.specs.Prelude.{◌≡◌};
 ghost use Rattle.certificate.specs.Facts.{Readable};
 ghost use Rattle.reading.specs.ReadingResults.{LaidOut};
 ghost use Rattle.covering.specs.Covering.{covers};
-ghost use Rattle.covering.specs.Comparing.{betterOf, comparisonOf, reportOf, comparedReport};
+ghost use Rattle.covering.specs.Comparing.{better_of, comparison_of, report_of, compared_report};
 
 pub mod answers;
 mod front;
@@ -26,7 +26,7 @@ fn covers_other(s: &[u8], layout: Layout, t: &[u8], other: Layout) -> bool
 // Which of two accepted certificates is better.
 fn compare_accepted(s: &[u8], layout: Layout, t: &[u8], other: Layout) -> Comparison
     requires { LaidOut s.now layout × Readable s.now × LaidOut t.now other × Readable t.now }
-    ensures { result ≡ betterOf (covers s.now t.now) (covers t.now s.now) }
+    ensures { result ≡ better_of (covers s.now t.now) (covers t.now s.now) }
 {
     let first = covers_other(s, layout, t, other);
     let second = covers_other(t, other, s, layout);
@@ -35,7 +35,7 @@ fn compare_accepted(s: &[u8], layout: Layout, t: &[u8], other: Layout) -> Compar
 
 // Which of two certificates is better, or the refusal of the first that is not accepted.
 pub fn compare(s: &[u8], t: &[u8]) -> Comparison
-    ensures { (result ≡ comparisonOf s.now t.now) × (reportOf result ≡ comparedReport s.now t.now) }
+    ensures { (result ≡ comparison_of s.now t.now) × (report_of result ≡ compared_report s.now t.now) }
 {
     let one = verdict::judge_with_layout(s);
     let a = one.reading;

@@ -1,27 +1,27 @@
 // The pairs of cell and mode that one certificate lists, in the other: one walk through both tables, whose pairs ascend.
 ghost use Rattle.std.specs.Prelude.{◌≡◌, ◌≤◌, ◌<◌};
 ghost use Rattle.certificate.specs.Loops.{every};
-ghost use Rattle.certificate.specs.Layout.{maxEntries, entriesOf, entriesStart};
+ghost use Rattle.certificate.specs.Layout.{max_entries, entries_of, entries_start};
 ghost use Rattle.certificate.specs.Facts.{Readable};
 ghost use Rattle.octets.specs.Bounds.{start_bound};
 ghost use Rattle.reading.specs.ReadingResults.{LaidOut};
-ghost use Rattle.covering.specs.Covering.{isMatched};
-ghost use Rattle.comparing.specs.Walk.{keyOf, KeysBelow, AtOrAbove, isMatchedBy};
+ghost use Rattle.covering.specs.Covering.{is_matched};
+ghost use Rattle.comparing.specs.Walk.{key_of, KeysBelow, AtOrAbove, is_matched_by};
 
 use entry_records::entries;
 use reading::Layout;
 
 // The pair of entry e as one number, cell × 256 + mode. The entries begin at `start`.
 fn key_of(s: &[u8], start: usize, e: usize) -> usize
-    requires { (e ≤ maxEntries) × (start ≤ start_bound) × (start ≡ entriesStart s.now) }
-    ensures { result ≡ keyOf s.now e }
+    requires { (e ≤ max_entries) × (start ≤ start_bound) × (start ≡ entries_start s.now) }
+    ensures { result ≡ key_of s.now e }
 {
     entries::cell_of(s, start, e) * 256 + entries::mode_of(s, start, e)
 }
 
 // The first entry with a key at or above this one, where no entry before e has one.
 fn first_at(s: &[u8], start: usize, all: usize, e: usize, key: usize) -> usize
-    requires { (start ≤ start_bound) × (start ≡ entriesStart s.now) × (all ≤ maxEntries) × (all ≡ entriesOf s.now) × (e ≤ all) × KeysBelow s.now e key }
+    requires { (start ≤ start_bound) × (start ≡ entries_start s.now) × (all ≤ max_entries) × (all ≡ entries_of s.now) × (e ≤ all) × KeysBelow s.now e key }
     ensures { AtOrAbove s.now key result }
 {
     let mut k = e;
@@ -44,8 +44,8 @@ fn matched_by(
     other: usize,
     f: usize,
 ) -> bool
-    requires { (start ≤ start_bound) × (start ≡ entriesStart s.now) × (all ≡ entriesOf s.now) × (e ≤ maxEntries) × (other ≤ start_bound) × (other ≡ entriesStart t.now) × (f ≤ maxEntries) }
-    ensures { result ≡ isMatchedBy s.now t.now e f }
+    requires { (start ≤ start_bound) × (start ≡ entries_start s.now) × (all ≡ entries_of s.now) × (e ≤ max_entries) × (other ≤ start_bound) × (other ≡ entries_start t.now) × (f ≤ max_entries) }
+    ensures { result ≡ is_matched_by s.now t.now e f }
 {
     (e < all)
         & (key_of(s, start, e) == key_of(t, other, f))
@@ -55,7 +55,7 @@ fn matched_by(
 // Every pair that t lists is listed in s with a rank no higher.
 pub fn all_matched(s: &[u8], layout: Layout, t: &[u8], other: Layout) -> bool
     requires { LaidOut s.now layout × Readable s.now × LaidOut t.now other × Readable t.now }
-    ensures { result ≡ every (entriesOf t.now) (isMatched s.now t.now) }
+    ensures { result ≡ every (entries_of t.now) (is_matched s.now t.now) }
 {
     let start = layout.entries_start;
     let all = layout.entries;

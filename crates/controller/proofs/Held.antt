@@ -9,58 +9,58 @@ use lib.ListN.{length, take}
 use Rattle.certificate.specs.declared.Report.{Report}
 use Rattle.reading.specs.declared.Reading.{Reading}
 use Rattle.certificate.specs.Checks.{refusal, need}
-use Rattle.certificate.specs.Layout.{maxLength}
+use Rattle.certificate.specs.Layout.{max_length}
 use Rattle.reading.specs.ReadingResults.{ReadAs}
-use Rattle.network.specs.Conditions.{screeningOf}
+use Rattle.network.specs.Conditions.{screening_of}
 use Rattle.controller.specs.declared.Controller.{Controller}
 use Rattle.controller.specs.declared.Shown.{Shown}
-use Rattle.controller.specs.State.{stored, isCertificate}
-use Rattle.judging.specs.Asking.{isProper, cellAsked, cellFault, lookupFault}
-use Rattle.controller.specs.Query.{queryFault, entryAsked, showing, refused, queryOf}
-use Rattle.asking.specs.FoundEntries.{storedFault, found_at, notFound, cellFound, lookupOf, asked_of}
-use Rattle.controller.specs.Parts.{shownBy}
+use Rattle.controller.specs.State.{stored, is_certificate}
+use Rattle.judging.specs.Asking.{is_proper, cell_asked, cell_fault, lookup_fault}
+use Rattle.controller.specs.Query.{query_fault, entry_asked, showing, refused, query_of}
+use Rattle.asking.specs.FoundEntries.{stored_fault, found_at, not_found, cell_found, lookup_of, asked_of}
+use Rattle.controller.specs.Parts.{shown_by}
 
 -- the first n bytes of a state's array are a certificate exactly where they pass
-pub holds_test : (bytes : List ℕ) (n : ℕ) → length bytes ≡ maxLength → isCertificate bytes n ≡ eqb (storedFault bytes n).number 0
-unfolding isCertificate storedFault need
-holds_test bytes n size = rw size (go (leb n maxLength))
+pub holds_test : (bytes : List ℕ) (n : ℕ) → length bytes ≡ max_length → is_certificate bytes n ≡ eqb (stored_fault bytes n).number 0
+unfolding is_certificate stored_fault need
+holds_test bytes n size = rw size (go (leb n max_length))
   where
-    go : (b : Bool) → (b && eqb (screeningOf (take n bytes)).number 0) ≡ eqb (cond b (screeningOf (take n bytes)) (refusal 18 0)).number 0
+    go : (b : Bool) → (b && eqb (screening_of (take n bytes)).number 0) ≡ eqb (cond b (screening_of (take n bytes)) (refusal 18 0)).number 0
     go true = refl
     go false = refl
 
-module _ (bytes : List ℕ) (n : ℕ) (size : length bytes ≡ maxLength) {r : Reading} (a : ReadAs (take n bytes) (storedFault bytes n) r) where
-  pub held : r.report.number ≡ 0 → isCertificate bytes n ≡ true
-  held z = holds_test bytes n size ∙ eq-eqb _ _ (rw a.report-is at z)
+module _ (bytes : List ℕ) (n : ℕ) (size : length bytes ≡ max_length) {r : Reading} (a : ReadAs (take n bytes) (stored_fault bytes n) r) where
+  pub held : r.report.number ≡ 0 → is_certificate bytes n ≡ true
+  held z = holds_test bytes n size ∙ eq-eqb _ _ (rw a.report_is at z)
 
-  pub not-held : (r.report.number ≡ 0 → ⊥) → isCertificate bytes n ≡ false
-  not-held bad = holds_test bytes n size ∙ ne_eqb _ _ (rw a.report-is at bad)
+  pub not_held : (r.report.number ≡ 0 → ⊥) → is_certificate bytes n ≡ false
+  not_held bad = holds_test bytes n size ∙ ne_eqb _ _ (rw a.report_is at bad)
 
 -- what is found in the stored bytes, shown, is the query's answer
-pub query-asks : (c : Controller) (queues : List ℕ) (scale : ℕ) → length c.bytes ≡ maxLength
-    → shownBy c (asked_of c.bytes c.len c.mode queues scale) ≡ queryOf c queues scale
-unfolding asked_of lookupOf cellFound queryOf queryFault lookupFault need
-query-asks c queues scale size = rw (holds_test c.bytes c.len size) (go (eqb (storedFault c.bytes c.len).number 0))
+pub query_asks : (c : Controller) (queues : List ℕ) (scale : ℕ) → length c.bytes ≡ max_length
+    → shown_by c (asked_of c.bytes c.len c.mode queues scale) ≡ query_of c queues scale
+unfolding asked_of lookup_of cell_found query_of query_fault lookup_fault need
+query_asks c queues scale size = rw (holds_test c.bytes c.len size) (go (eqb (stored_fault c.bytes c.len).number 0))
   where
     cell : ℕ
-    cell = cellAsked (stored c) queues scale
+    cell = cell_asked (stored c) queues scale
 
     fault : Report
-    fault = cellFault (stored c) c.mode cell
+    fault = cell_fault (stored c) c.mode cell
 
     -- what is due where the tests end in f
     due : Report → Shown
-    due f = cond (eqb f.number 0) (showing c (entryAsked c queues scale)) (refused c f)
+    due f = cond (eqb f.number 0) (showing c (entry_asked c queues scale)) (refused c f)
 
-    found : (b : Bool) → shownBy c (cond b (found_at (stored c) (entryAsked c queues scale)) (notFound fault c.mode)) ≡ cond b (showing c (entryAsked c queues scale)) (refused c fault)
+    found : (b : Bool) → shown_by c (cond b (found_at (stored c) (entry_asked c queues scale)) (not_found fault c.mode)) ≡ cond b (showing c (entry_asked c queues scale)) (refused c fault)
     found true = refl
     found false = refl
 
-    proper : (b : Bool) → shownBy c (cond b (cellFound (stored c) c.mode cell) (notFound (refusal 16 0) c.mode)) ≡ due (need b (refusal 16 0) fault)
+    proper : (b : Bool) → shown_by c (cond b (cell_found (stored c) c.mode cell) (not_found (refusal 16 0) c.mode)) ≡ due (need b (refusal 16 0) fault)
     proper true = found (eqb fault.number 0)
     proper false = refl
 
-    go : (b : Bool) → shownBy c (cond b (lookupOf (stored c) c.mode queues scale) (notFound (refusal 18 0) c.mode))
-        ≡ due (need b (refusal 18 0) (lookupFault (stored c) c.mode queues scale))
-    go true = proper (isProper (stored c) queues scale)
+    go : (b : Bool) → shown_by c (cond b (lookup_of (stored c) c.mode queues scale) (not_found (refusal 18 0) c.mode))
+        ≡ due (need b (refusal 18 0) (lookup_fault (stored c) c.mode queues scale))
+    go true = proper (is_proper (stored c) queues scale)
     go false = refl

@@ -2,14 +2,14 @@
 use Rattle.controller.specs.declared.Controller.{Controller}
 use Rattle.controller.specs.declared.Shown.{Shown}
 use Rattle.asking.specs.declared.Found.{Found}
-use Rattle.controller.specs.State.{inMode}
+use Rattle.controller.specs.State.{in_mode}
 
 -- what is found, shown with the state in the mode found
-abbrev pub shownBy : Controller → Found → Shown
-shownBy c found =
+abbrev pub shown_by : Controller → Found → Shown
+shown_by c found =
     record {
       report = found.report;
       signal = found.signal;
       green = found.green;
-      state = inMode c found.mode;
+      state = in_mode c found.mode;
     }

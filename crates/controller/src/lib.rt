@@ -1,7 +1,7 @@
 // The controller: a state that holds one certificate and a mode, and the calls load, query and write.
 ghost use Rattle.std.specs.Prelude.{◌≡◌};
-ghost use Rattle.controller.specs.Limits.{formatLimits};
-ghost use Rattle.controller.specs.State.{freshState};
+ghost use Rattle.controller.specs.Limits.{format_limits};
+ghost use Rattle.controller.specs.State.{fresh_state};
 
 use certificate::{Report, limits};
 
@@ -79,7 +79,7 @@ impl Controller {
 
     // All of them in one value, so that each is proved to be the definition's.
     pub fn limits() -> Limits
-        ensures { result ≡ formatLimits }
+        ensures { result ≡ format_limits }
     {
         Limits {
             links: Controller::MAX_LINKS,
@@ -103,7 +103,7 @@ impl Controller {
 
     // The fresh state: mode 0, and no certificate.
     pub fn fresh() -> Controller
-        ensures { result ≡ freshState }
+        ensures { result ≡ fresh_state }
     {
         Controller {
             bytes: [0u8; Controller::SIZE],

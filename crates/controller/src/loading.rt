@@ -1,6 +1,6 @@
 // Loading: the verdict of any bytes, and the state that holds its own copy of an accepted certificate.
 ghost use Rattle.std.specs.Prelude.{◌≡◌, ◌≤◌, length};
-ghost use Rattle.certificate.specs.Layout.{maxLength};
+ghost use Rattle.certificate.specs.Layout.{max_length};
 ghost use Rattle.runs.specs.Claim.{RunClaim};
 ghost use Rattle.controller.specs.State.{holding, load_of};
 
@@ -10,7 +10,7 @@ use octets::filling;
 impl Controller {
     // The state that holds a copy of s, in mode 0, with zeros past the copy.
     fn holding(s: &[u8]) -> Controller
-        requires { length s.now ≤ maxLength }
+        requires { length s.now ≤ max_length }
         ensures { result ≡ holding s.now }
     {
         let mut bytes = [0u8; Controller::SIZE];

@@ -1,8 +1,8 @@
 // Writing the stored records into the part of a lent buffer from a start on.
 ghost use Rattle.std.specs.Prelude.{◌≡◌, true, length};
-ghost use Rattle.certificate.specs.Layout.{maxLength};
-ghost use Rattle.controller.specs.State.{isCertificate};
-ghost use Rattle.controller.specs.Write.{writeReportOf, writeBufferOf, writeReport, writeBuffer};
+ghost use Rattle.certificate.specs.Layout.{max_length};
+ghost use Rattle.controller.specs.State.{is_certificate};
+ghost use Rattle.controller.specs.Write.{write_report_of, write_buffer_of, write_report, write_buffer};
 
 use crate::Controller;
 use asking::stored;
@@ -12,8 +12,8 @@ use octets::filling;
 // Writes the certificate that the first n of the bytes are into the buffer from start on; A is its length.
 // Refusal 17: the start lies beyond the buffer, or the part from there is too short.
 fn write_stored(bytes: &[u8], n: usize, buffer: &mut [u8], start: usize) -> Report
-    requires { (length bytes.now ≡ maxLength) × (isCertificate bytes.now n ≡ true) }
-    ensures { (result ≡ writeReportOf bytes.now n buffer.old start) × (buffer.new ≡ writeBufferOf bytes.now n buffer.old start) }
+    requires { (length bytes.now ≡ max_length) × (is_certificate bytes.now n ≡ true) }
+    ensures { (result ≡ write_report_of bytes.now n buffer.old start) × (buffer.new ≡ write_buffer_of bytes.now n buffer.old start) }
 {
     if start > buffer.len() {
         return octets::refuse(17, 0);
@@ -27,8 +27,8 @@ fn write_stored(bytes: &[u8], n: usize, buffer: &mut [u8], start: usize) -> Repo
 
 // Writes the first n of a state's bytes into the buffer from start on; refuses where they are no certificate (18) or there is no room (17).
 fn write_from(bytes: &[u8], n: usize, buffer: &mut [u8], start: usize) -> Report
-    requires { length bytes.now ≡ maxLength }
-    ensures { (result ≡ writeReportOf bytes.now n buffer.old start) × (buffer.new ≡ writeBufferOf bytes.now n buffer.old start) }
+    requires { length bytes.now ≡ max_length }
+    ensures { (result ≡ write_report_of bytes.now n buffer.old start) × (buffer.new ≡ write_buffer_of bytes.now n buffer.old start) }
 {
     let found = stored::stored_reading(bytes, n);
     let f = found.report;
@@ -41,7 +41,7 @@ fn write_from(bytes: &[u8], n: usize, buffer: &mut [u8], start: usize) -> Report
 impl Controller {
     // Writes the stored certificate into the buffer from start on; refuses where none is stored (18) or there is no room (17).
     pub fn write(self, buffer: &mut [u8], start: usize) -> Report
-        ensures { (result ≡ writeReport self buffer.old start) × (buffer.new ≡ writeBuffer self buffer.old start) }
+        ensures { (result ≡ write_report self buffer.old start) × (buffer.new ≡ write_buffer self buffer.old start) }
     {
         write_from(&self.bytes, self.len, buffer, start)
     }

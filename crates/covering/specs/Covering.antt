@@ -3,8 +3,8 @@
 use Rattle.std.specs.Prelude.{ℕ, ◌≤◌, ◌<◌, List, Bool, ◌&&◌, ◌||◌, ◌≡◌, eqb, leb}
 use Rattle.certificate.specs.Octets.{byte_at}
 use Rattle.certificate.specs.Loops.{every}
-use Rattle.certificate.specs.Layout.{entriesOf, entriesStart, cell_of, mode_of, rank_of}
-use Rattle.judging.specs.Lookup.{entryFor, isListed}
+use Rattle.certificate.specs.Layout.{entries_of, entries_start, cell_of, mode_of, rank_of}
+use Rattle.judging.specs.Lookup.{entry_for, is_listed}
 use Rattle.judging.specs.Conditions.{Lists}
 
 -- In plain terms, for any bytes.
@@ -12,8 +12,8 @@ use Rattle.judging.specs.Conditions.{Lists}
 -- the first EN stands at the same offset, and all bytes before it agree but the two of the entry count, 7 and 8: the kind, all other counts, LK, TN,
 -- SG, MD, GR and AR
 pub record SameFront (s t : List ℕ) : Type 0 where
-  pub start : entriesStart s ≡ entriesStart t
-  pub bytes : (o : ℕ) → o < entriesStart s → (o ≡ 7 → ⊥) → (o ≡ 8 → ⊥) → byte_at s o ≡ byte_at t o
+  pub start : entries_start s ≡ entries_start t
+  pub bytes : (o : ℕ) → o < entries_start s → (o ≡ 7 → ⊥) → (o ≡ 8 → ⊥) → byte_at s o ≡ byte_at t o
 
 -- the pair of entry f of t is listed in s, with a rank no higher; signal and next mode may differ
 abbrev pub Matched : List ℕ → List ℕ → ℕ → Type 0
@@ -22,19 +22,19 @@ Matched s t f = (e : ℕ) × Lists s (cell_of t f) (mode_of t f) e × (rank_of s
 -- s covers t; s may list more pairs than t, with any ranks
 pub record Covers (s t : List ℕ) : Type 0 where
   pub front : SameFront s t
-  pub pairs : (f : ℕ) → f < entriesOf t → Matched s t f
+  pub pairs : (f : ℕ) → f < entries_of t → Matched s t f
 
 -- As tests, which decide it for certificates that can be read (law `CoversIsPlain`).
 
 -- the byte at o is one of the entry count, or the same in both
-unfoldable pub byteAgrees : List ℕ → List ℕ → ℕ → Bool
-byteAgrees s t o = eqb o 7 || (eqb o 8 || eqb (byte_at s o) (byte_at t o))
+unfoldable pub byte_agrees : List ℕ → List ℕ → ℕ → Bool
+byte_agrees s t o = eqb o 7 || (eqb o 8 || eqb (byte_at s o) (byte_at t o))
 
-unfoldable pub sameFront : List ℕ → List ℕ → Bool
-sameFront s t = eqb (entriesStart s) (entriesStart t) && every (entriesStart s) (byteAgrees s t)
+unfoldable pub same_front : List ℕ → List ℕ → Bool
+same_front s t = eqb (entries_start s) (entries_start t) && every (entries_start s) (byte_agrees s t)
 
-unfoldable pub isMatched : List ℕ → List ℕ → ℕ → Bool
-isMatched s t f = isListed s (cell_of t f) (mode_of t f) && leb (rank_of s (entryFor s (cell_of t f) (mode_of t f))) (rank_of t f)
+unfoldable pub is_matched : List ℕ → List ℕ → ℕ → Bool
+is_matched s t f = is_listed s (cell_of t f) (mode_of t f) && leb (rank_of s (entry_for s (cell_of t f) (mode_of t f))) (rank_of t f)
 
 unfoldable pub covers : List ℕ → List ℕ → Bool
-covers s t = sameFront s t && every (entriesOf t) (isMatched s t)
+covers s t = same_front s t && every (entries_of t) (is_matched s t)

@@ -1,11 +1,11 @@
 // The tests of the records of entries (refusals 9, 22, 23 and 24). `start` is where the records of entries begin.
 ghost use Rattle.std.specs.Prelude.{◌≡◌, ℕ, ◌+◌, ◌<◌, ◌≤◌, eqb, length};
 ghost use Rattle.certificate.specs.Loops.{pick};
-ghost use Rattle.certificate.specs.Checks.{firstBad};
-ghost use Rattle.certificate.specs.Layout.{maxCells, entriesStart, entry_at, entrySize};
-ghost use Rattle.certificate.specs.Records.{namesExist, passesOn, turnsOn, entryFault};
+ghost use Rattle.certificate.specs.Checks.{first_bad};
+ghost use Rattle.certificate.specs.Layout.{max_cells, entries_start, entry_at, entry_size};
+ghost use Rattle.certificate.specs.Records.{names_exist, passes_on, turns_on, entry_fault};
 ghost use Rattle.entry_checks.specs.Keys.{CountsAre, IsKey, KeyBefore, Ordered};
-ghost use Rattle.octets.specs.Bounds.{entryBound, start_bound};
+ghost use Rattle.octets.specs.Bounds.{entry_bound, start_bound};
 
 use certificate::{Report, limits};
 use entry_records::entries;
@@ -26,7 +26,7 @@ pub struct Counts {
 
 // The pair of the entry at o, which is there whole, as one number: cell × 256 + mode.
 fn key_at(s: &[u8], o: usize, e: usize) -> usize
-    requires { (o ≤ entryBound) × (o ≡ entry_at s.now e) × (o + entrySize ≤ length s.now) }
+    requires { (o ≤ entry_bound) × (o ≡ entry_at s.now e) × (o + entry_size ≤ length s.now) }
     ensures { IsKey s.now e result }
 {
     octets::u16_within(s, o + 2) * 256 + octets::byte_within(s, o + 4)
@@ -34,8 +34,8 @@ fn key_at(s: &[u8], o: usize, e: usize) -> usize
 
 // The cell, mode, signal and next mode that the entry at o names exist. It is there whole and has that key.
 fn names_exist(s: &[u8], o: usize, counts: Counts, e: usize, key: usize) -> bool
-    requires { (o ≤ entryBound) × (o ≡ entry_at s.now e) × (o + entrySize ≤ length s.now) × (counts.cells ≤ maxCells) × CountsAre s.now counts × IsKey s.now e key }
-    ensures { result ≡ namesExist s.now e }
+    requires { (o ≤ entry_bound) × (o ≡ entry_at s.now e) × (o + entry_size ≤ length s.now) × (counts.cells ≤ max_cells) × CountsAre s.now counts × IsKey s.now e key }
+    ensures { result ≡ names_exist s.now e }
 {
     (key < counts.cells * 256)
         & (key % 256 < counts.modes)
@@ -45,8 +45,8 @@ fn names_exist(s: &[u8], o: usize, counts: Counts, e: usize, key: usize) -> bool
 
 // Where modes remember, the next mode of the entry at o, which is there whole, remembers its signal.
 fn passes_on(s: &[u8], o: usize, counts: Counts, e: usize) -> bool
-    requires { (o ≤ entryBound) × (o ≡ entry_at s.now e) × (o + entrySize ≤ length s.now) × CountsAre s.now counts }
-    ensures { result ≡ passesOn s.now e }
+    requires { (o ≤ entry_bound) × (o ≡ entry_at s.now e) × (o + entry_size ≤ length s.now) × CountsAre s.now counts }
+    ensures { result ≡ passes_on s.now e }
 {
     if !counts.memory {
         return true;
@@ -72,8 +72,8 @@ fn number_due(rank: usize, own: usize, greatest: usize) -> usize
 
 // Where modes have goals in turn, the next mode of the entry at o, which is there whole, has the goal number due.
 fn turns_on(s: &[u8], o: usize, counts: Counts, e: usize) -> bool
-    requires { (o ≤ entryBound) × (o ≡ entry_at s.now e) × (o + entrySize ≤ length s.now) × CountsAre s.now counts }
-    ensures { result ≡ turnsOn s.now e }
+    requires { (o ≤ entry_bound) × (o ≡ entry_at s.now e) × (o + entry_size ≤ length s.now) × CountsAre s.now counts }
+    ensures { result ≡ turns_on s.now e }
 {
     if !counts.turns {
         return true;
@@ -86,7 +86,7 @@ fn turns_on(s: &[u8], o: usize, counts: Counts, e: usize) -> bool
 // A quick yes for the record at o: it is there whole, its mark is right, and its tests up to 22 pass. One above its key then, else 0.
 // `least` is one above the key of the entry before it, and 0 for the first entry.
 fn quick(s: &[u8], o: usize, counts: Counts, e: usize, least: usize) -> usize
-    requires { (o ≤ entryBound) × (o ≡ entry_at s.now e) × (counts.cells ≤ maxCells) × CountsAre s.now counts × KeyBefore s.now e least }
+    requires { (o ≤ entry_bound) × (o ≡ entry_at s.now e) × (counts.cells ≤ max_cells) × CountsAre s.now counts × KeyBefore s.now e least }
     ensures { (result ≡ 0 → ⊥) → Ordered s.now e × KeyBefore s.now (e + 1) result }
 {
     if s.len() < o + limits::ENTRY_SIZE {
@@ -102,8 +102,8 @@ fn quick(s: &[u8], o: usize, counts: Counts, e: usize, least: usize) -> usize
 
 // The record at o by its tests one after another.
 fn check_entry(s: &[u8], o: usize, counts: Counts, e: usize, least: usize) -> Report
-    requires { (o ≤ entryBound) × (o ≡ entry_at s.now e) × (counts.cells ≤ maxCells) × CountsAre s.now counts × KeyBefore s.now e least }
-    ensures { result ≡ entryFault s.now e }
+    requires { (o ≤ entry_bound) × (o ≡ entry_at s.now e) × (counts.cells ≤ max_cells) × CountsAre s.now counts × KeyBefore s.now e least }
+    ensures { result ≡ entry_fault s.now e }
 {
     let opening = octets::check_opened(s, o, octets::marked_as(s, o, 69, 78), limits::ENTRY_SIZE);
     if opening.number != 0 {
@@ -121,8 +121,8 @@ fn check_entry(s: &[u8], o: usize, counts: Counts, e: usize, least: usize) -> Re
 
 // The records of all entries, each by its tests one after another.
 fn check_each(s: &[u8], start: usize, counts: Counts, entries: usize) -> Report
-    requires { (entries < 65536) × (start ≤ start_bound) × (start ≡ entriesStart s.now) × (counts.cells ≤ maxCells) × CountsAre s.now counts }
-    ensures { result ≡ firstBad entries (entryFault s.now) }
+    requires { (entries < 65536) × (start ≤ start_bound) × (start ≡ entries_start s.now) × (counts.cells ≤ max_cells) × CountsAre s.now counts }
+    ensures { result ≡ first_bad entries (entry_fault s.now) }
 {
     let mut least = 0;
     for e in 0..entries {
@@ -138,8 +138,8 @@ fn check_each(s: &[u8], start: usize, counts: Counts, entries: usize) -> Report
 
 // 23 and 24 of all entries, which pass the tests before them. They have a loop of their own, so that HD has no part in it.
 fn check_memories(s: &[u8], start: usize, counts: Counts, entries: usize) -> Report
-    requires { (entries < 65536) × (start ≤ start_bound) × (start ≡ entriesStart s.now) × CountsAre s.now counts × ((e : ℕ) → e < entries → Ordered s.now e) }
-    ensures { result ≡ firstBad entries (entryFault s.now) }
+    requires { (entries < 65536) × (start ≤ start_bound) × (start ≡ entries_start s.now) × CountsAre s.now counts × ((e : ℕ) → e < entries → Ordered s.now e) }
+    ensures { result ≡ first_bad entries (entry_fault s.now) }
 {
     for e in 0..entries {
         let o = entries::entry_at(start, e);
@@ -155,8 +155,8 @@ fn check_memories(s: &[u8], start: usize, counts: Counts, entries: usize) -> Rep
 
 // The records of all entries: quickly as long as the quick test says yes, and then 23 and 24; where it says no, each again with care.
 pub fn check_entries(s: &[u8], start: usize, counts: Counts, entries: usize) -> Report
-    requires { (entries < 65536) × (start ≤ start_bound) × (start ≡ entriesStart s.now) × (counts.cells ≤ maxCells) × CountsAre s.now counts }
-    ensures { result ≡ firstBad entries (entryFault s.now) }
+    requires { (entries < 65536) × (start ≤ start_bound) × (start ≡ entries_start s.now) × (counts.cells ≤ max_cells) × CountsAre s.now counts }
+    ensures { result ≡ first_bad entries (entry_fault s.now) }
 {
     let mut least = 0;
     for e in 0..entries {

@@ -1,8 +1,8 @@
 // EN: one record an entry of the policy, and its fields. `start` is where the records of entries begin.
 ghost use Rattle.std.specs.Prelude.{◌≡◌, ◌+◌, ◌*◌, ◌<◌, ◌≤◌};
-ghost use Rattle.certificate.specs.Octets.{byte_at, u16At};
-ghost use Rattle.certificate.specs.Layout.{entriesStart, entry_at, entrySize, cell_of, mode_of, signalOf, nextModeOf, rank_of};
-ghost use Rattle.certificate.specs.Entries.{cabinetEntryOf, benchEntryOf};
+ghost use Rattle.certificate.specs.Octets.{byte_at, u16_at};
+ghost use Rattle.certificate.specs.Layout.{entries_start, entry_at, entry_size, cell_of, mode_of, signal_of, next_mode_of, rank_of};
+ghost use Rattle.certificate.specs.Entries.{cabinet_entry_of, bench_entry_of};
 ghost use Rattle.octets.specs.Bounds.{start_bound};
 
 use certificate::{BenchEntry, CabinetEntry, limits};
@@ -10,56 +10,56 @@ use certificate::{BenchEntry, CabinetEntry, limits};
 // Where the record of entry e stands.
 pub fn entry_at(start: usize, e: usize) -> usize
     requires { (e < 65536) × (start ≤ start_bound) }
-    ensures { (result ≡ start + entrySize * e) × (result ≤ 700000) }
+    ensures { (result ≡ start + entry_size * e) × (result ≤ 700000) }
 {
     start + limits::ENTRY_SIZE * e
 }
 
 // The byte and the two-byte number at offset k of the record of entry e.
 fn entry_byte(s: &[u8], start: usize, e: usize, k: usize) -> usize
-    requires { (e < 65536) × (k < 256) × (start ≤ start_bound) × (start ≡ entriesStart s.now) }
+    requires { (e < 65536) × (k < 256) × (start ≤ start_bound) × (start ≡ entries_start s.now) }
     ensures { (result ≡ byte_at s.now (entry_at s.now e + k)) × (result < 256) }
 {
     octets::byte_at(s, entry_at(start, e) + k)
 }
 
 fn entry_u16(s: &[u8], start: usize, e: usize, k: usize) -> usize
-    requires { (e < 65536) × (k < 256) × (start ≤ start_bound) × (start ≡ entriesStart s.now) }
-    ensures { (result ≡ u16At s.now (entry_at s.now e + k)) × (result < 65536) }
+    requires { (e < 65536) × (k < 256) × (start ≤ start_bound) × (start ≡ entries_start s.now) }
+    ensures { (result ≡ u16_at s.now (entry_at s.now e + k)) × (result < 65536) }
 {
     octets::u16_at(s, entry_at(start, e) + k)
 }
 
 pub fn cell_of(s: &[u8], start: usize, e: usize) -> usize
-    requires { (e < 65536) × (start ≤ start_bound) × (start ≡ entriesStart s.now) }
+    requires { (e < 65536) × (start ≤ start_bound) × (start ≡ entries_start s.now) }
     ensures { (result ≡ cell_of s.now e) × (result < 65536) }
 {
     entry_u16(s, start, e, 2)
 }
 
 pub fn mode_of(s: &[u8], start: usize, e: usize) -> usize
-    requires { (e < 65536) × (start ≤ start_bound) × (start ≡ entriesStart s.now) }
+    requires { (e < 65536) × (start ≤ start_bound) × (start ≡ entries_start s.now) }
     ensures { (result ≡ mode_of s.now e) × (result < 256) }
 {
     entry_byte(s, start, e, 4)
 }
 
 pub fn signal_of(s: &[u8], start: usize, e: usize) -> usize
-    requires { (e < 65536) × (start ≤ start_bound) × (start ≡ entriesStart s.now) }
-    ensures { (result ≡ signalOf s.now e) × (result < 256) }
+    requires { (e < 65536) × (start ≤ start_bound) × (start ≡ entries_start s.now) }
+    ensures { (result ≡ signal_of s.now e) × (result < 256) }
 {
     entry_byte(s, start, e, 5)
 }
 
 pub fn next_mode_of(s: &[u8], start: usize, e: usize) -> usize
-    requires { (e < 65536) × (start ≤ start_bound) × (start ≡ entriesStart s.now) }
-    ensures { (result ≡ nextModeOf s.now e) × (result < 256) }
+    requires { (e < 65536) × (start ≤ start_bound) × (start ≡ entries_start s.now) }
+    ensures { (result ≡ next_mode_of s.now e) × (result < 256) }
 {
     entry_byte(s, start, e, 6)
 }
 
 pub fn rank_of(s: &[u8], start: usize, e: usize) -> usize
-    requires { (e < 65536) × (start ≤ start_bound) × (start ≡ entriesStart s.now) }
+    requires { (e < 65536) × (start ≤ start_bound) × (start ≡ entries_start s.now) }
     ensures { (result ≡ rank_of s.now e) × (result < 65536) }
 {
     entry_u16(s, start, e, 7)
@@ -67,8 +67,8 @@ pub fn rank_of(s: &[u8], start: usize, e: usize) -> usize
 
 // The cabinet's reading of entry e: all but its rank.
 pub fn cabinet_entry(s: &[u8], start: usize, e: usize) -> CabinetEntry
-    requires { (e < 65536) × (start ≤ start_bound) × (start ≡ entriesStart s.now) }
-    ensures { (result ≡ cabinetEntryOf s.now e) × (result.cell < 65536) × (result.mode < 256) × (result.signal < 256) × (result.next_mode < 256) }
+    requires { (e < 65536) × (start ≤ start_bound) × (start ≡ entries_start s.now) }
+    ensures { (result ≡ cabinet_entry_of s.now e) × (result.cell < 65536) × (result.mode < 256) × (result.signal < 256) × (result.next_mode < 256) }
 {
     CabinetEntry {
         cell: cell_of(s, start, e),
@@ -80,8 +80,8 @@ pub fn cabinet_entry(s: &[u8], start: usize, e: usize) -> CabinetEntry
 
 // The bench's: the rank as well.
 pub fn bench_entry(s: &[u8], start: usize, e: usize) -> BenchEntry
-    requires { (e < 65536) × (start ≤ start_bound) × (start ≡ entriesStart s.now) }
-    ensures { (result ≡ benchEntryOf s.now e) × (result.shown.cell < 65536) × (result.shown.mode < 256) × (result.shown.signal < 256) × (result.shown.next_mode < 256) × (result.rank < 65536) }
+    requires { (e < 65536) × (start ≤ start_bound) × (start ≡ entries_start s.now) }
+    ensures { (result ≡ bench_entry_of s.now e) × (result.shown.cell < 65536) × (result.shown.mode < 256) × (result.shown.signal < 256) × (result.shown.next_mode < 256) × (result.rank < 65536) }
 {
     let shown = cabinet_entry(s, start, e);
     BenchEntry {

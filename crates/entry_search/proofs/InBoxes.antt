@@ -9,177 +9,177 @@ use native.Mathlib.Omega.{arith}
 use lib.ListN.{length, get_or}
 use Rattle.certificate.specs.declared.Report.{Report}
 use Rattle.certificate.specs.Loops.{pick, sum_to}
-use Rattle.certificate.specs.Checks.{result}
-use Rattle.certificate.specs.Layout.{cells_of, boxesOf, cell_of}
-use Rattle.certificate.proofs.Loops.{sum_same, sum-next, sum-swap, sum-most, sum-full}
-use Rattle.network.specs.Network.{entryLimit}
+use Rattle.certificate.specs.Checks.{report_with}
+use Rattle.certificate.specs.Layout.{cells_of, boxes_of, cell_of}
+use Rattle.certificate.proofs.Loops.{sum_same, sum_next, sum_swap, sum_most, sum_full}
+use Rattle.network.specs.Network.{entry_limit}
 use Rattle.network.specs.Laws.{Screened}
-use Rattle.successors.specs.Ranges.{RangesOf, RunsOf, inRanges, howMany}
-use Rattle.successors.proofs.Ranging.{successor-in-ranges}
-use Rattle.judging.specs.EntryTests.{follows, successorFault}
-use Rattle.entry_search.specs.Search.{EntryImage, BoxRanges, RunsFit, AtCell, boxesFrom, cellsFrom, passes, runPassing, columnPassing, runsPassing}
-use Rattle.entry_search.proofs.Successors.{looked-refused, looked-fine, passes-met}
-use Rattle.entry_search.proofs.Searching.{open-box, shut-box, end-search, pass-over, holds, stops}
+use Rattle.successors.specs.Ranges.{RangesOf, RunsOf, in_ranges, how_many}
+use Rattle.successors.proofs.Ranging.{successor_in_ranges}
+use Rattle.judging.specs.EntryTests.{follows, successor_fault}
+use Rattle.entry_search.specs.Search.{EntryImage, BoxRanges, RunsFit, AtCell, boxes_from, cells_from, passes, run_passing, column_passing, runs_passing}
+use Rattle.entry_search.proofs.Successors.{looked_refused, looked_fine, passes_met}
+use Rattle.entry_search.proofs.Searching.{open_box, shut_box, end_search, pass_over, holds, stops}
 
 -- the ranges that meet an entry's image have its successors
-pub ranges-are : (s : List ℕ) → Screened s → (e b : ℕ) (from to first last : List ℕ) (over : List Bool) → EntryImage s e b from to over
+pub ranges_are : (s : List ℕ) → Screened s → (e b : ℕ) (from to first last : List ℕ) (over : List Bool) → EntryImage s e b from to over
     → RangesOf s from to first last → BoxRanges s e b first last
 unfolding follows
-ranges-are s S e b from to first last over I R =
+ranges_are s S e b from to first last over I R =
     record {
       bounded = R.bounded;
-      same = successor-in-ranges s S.readable (entryLimit s e) b (cell_of s e) from to first last I.low-is I.high_is R;
+      same = successor_in_ranges s S.readable (entry_limit s e) b (cell_of s e) from to first last I.low_is I.high_is R;
     }
 
-one-most : (b : Bool) → pick b 1 0 ≤ 1
-one-most true = omega arith
-one-most false = omega arith
+one_most : (b : Bool) → pick b 1 0 ≤ 1
+one_most true = omega arith
+one_most false = omega arith
 
-one-is : (b : Bool) → pick b 1 0 ≡ 1 → b ≡ true
-one-is true e = refl
-one-is false e = absurd (omega arith)
+one_is : (b : Bool) → pick b 1 0 ≡ 1 → b ≡ true
+one_is true e = refl
+one_is false e = absurd (omega arith)
 
 -- not more pass than there are, and where it is all of them, each does
-pub many-most : (n : ℕ) (p : ℕ → Bool) → howMany n p ≤ n
-many-most n p = omega (arith, sum-most 1 (λ k. pick (p k) 1 0) n (λ k lt. one-most (p k)), mul-one n)
+pub many_most : (n : ℕ) (p : ℕ → Bool) → how_many n p ≤ n
+many_most n p = omega (arith, sum_most 1 (λ k. pick (p k) 1 0) n (λ k lt. one_most (p k)), mul-one n)
 
-many-all : (n : ℕ) (p : ℕ → Bool) → howMany n p ≡ n → (i : ℕ) → i < n → p i ≡ true
-many-all n p e i lt = one-is (p i) (sum-full 1 (λ k. pick (p k) 1 0) n (λ k below. one-most (p k)) (e ∙ sym (mul-one n)) i lt)
+many_all : (n : ℕ) (p : ℕ → Bool) → how_many n p ≡ n → (i : ℕ) → i < n → p i ≡ true
+many_all n p e i lt = one_is (p i) (sum_full 1 (λ k. pick (p k) 1 0) n (λ k below. one_most (p k)) (e ∙ sym (mul-one n)) i lt)
 
 -- a sum in a loop: none yet, and one more
-pub sum-begins : (f : ℕ → ℕ) → 0 ≡ sum_to 0 f
+pub sum_begins : (f : ℕ → ℕ) → 0 ≡ sum_to 0 f
 unfolding sum_to
-sum-begins f = refl
+sum_begins f = refl
 
 pub sum_more : (n r one : ℕ) (f : ℕ → ℕ) → r ≡ sum_to n f → one ≡ f n → r + one ≡ sum_to (n + 1) f
-sum_more n r one f e is = rw (e, is) (sym (sum-next n f))
+sum_more n r one f e is = rw (e, is) (sym (sum_next n f))
 
 -- the cells of runs that pass, counted run by run: not more than there are, and where it is all of them, each does
 module _ (s : List ℕ) (e : ℕ) (runs : List ℕ) (n size : ℕ) where
-  run-most : (i : ℕ) → i < n → runPassing s e (get_or runs i 0) size ≤ size
-  run-most i lt = many-most size (λ j. passes s e (get_or runs i 0 + j))
+  run_most : (i : ℕ) → i < n → run_passing s e (get_or runs i 0) size ≤ size
+  run_most i lt = many_most size (λ j. passes s e (get_or runs i 0 + j))
 
-  pub runs-most : runsPassing s e runs n size ≤ n * size
-  runs-most = sum-most size (λ i. runPassing s e (get_or runs i 0) size) n run-most
+  pub runs_most : runs_passing s e runs n size ≤ n * size
+  runs_most = sum_most size (λ i. run_passing s e (get_or runs i 0) size) n run_most
 
-  runs-all : runsPassing s e runs n size ≡ n * size → (i j : ℕ) → i < n → j < size → passes s e (get_or runs i 0 + j) ≡ true
-  runs-all all i j lt below =
-      many-all size (λ j. passes s e (get_or runs i 0 + j)) (sum-full size (λ i. runPassing s e (get_or runs i 0) size) n run-most all i lt) j below
+  runs_all : runs_passing s e runs n size ≡ n * size → (i j : ℕ) → i < n → j < size → passes s e (get_or runs i 0 + j) ≡ true
+  runs_all all i j lt below =
+      many_all size (λ j. passes s e (get_or runs i 0 + j)) (sum_full size (λ i. run_passing s e (get_or runs i 0) size) n run_most all i lt) j below
 
   -- so are those of the first k columns
-  pub columns-most : (k : ℕ) → sum_to k (columnPassing s e runs n) ≤ k * n
-  columns-most k = sum-most n (columnPassing s e runs n) k (λ j lt. many-most n (λ i. passes s e (get_or runs i 0 + j)))
+  pub columns_most : (k : ℕ) → sum_to k (column_passing s e runs n) ≤ k * n
+  columns_most k = sum_most n (column_passing s e runs n) k (λ j lt. many_most n (λ i. passes s e (get_or runs i 0 + j)))
 
   -- and all columns have as many
-  pub by-columns : sum_to size (columnPassing s e runs n) ≡ runsPassing s e runs n size
-  by-columns = sym (sum-swap n size (λ i j. pick (passes s e (get_or runs i 0 + j)) 1 0))
+  pub by_columns : sum_to size (column_passing s e runs n) ≡ runs_passing s e runs n size
+  by_columns = sym (sum_swap n size (λ i j. pick (passes s e (get_or runs i 0 + j)) 1 0))
 
 module _ (s : List ℕ) (e b : ℕ) where
-  pub cell-none : AtCell s e b 0 0
-  cell-none = record { rest = λ n. let z : n + 0 ≡ n = omega arith in rw z; most = omega arith; inside = omega arith }
+  pub cell_none : AtCell s e b 0 0
+  cell_none = record { rest = λ n. let z : n + 0 ≡ n = omega arith in rw z; most = omega arith; inside = omega arith }
 
-  cell-over : (d looked : ℕ) → d < cells_of s → AtCell s e b d looked → follows s e b d ≡ false → AtCell s e b (d + 1) looked
-  cell-over d looked lt A f = record { rest = λ n. A.rest n ∙ sym (pass-over s e b d (n + looked) lt f refl); most = omega (arith, A.most); inside = omega arith }
+  cell_over : (d looked : ℕ) → d < cells_of s → AtCell s e b d looked → follows s e b d ≡ false → AtCell s e b (d + 1) looked
+  cell_over d looked lt A f = record { rest = λ n. A.rest n ∙ sym (pass_over s e b d (n + looked) lt f refl); most = omega (arith, A.most); inside = omega arith }
 
-  cell_holds : (d looked : ℕ) → d < cells_of s → AtCell s e b d looked → follows s e b d ≡ true → 0 ≡ (successorFault s e d 0).number → AtCell s e b (d + 1) (looked + 1)
+  cell_holds : (d looked : ℕ) → d < cells_of s → AtCell s e b d looked → follows s e b d ≡ true → 0 ≡ (successor_fault s e d 0).number → AtCell s e b (d + 1) (looked + 1)
   cell_holds d looked lt A f is =
       record {
         rest = λ n.
             let up : n + (looked + 1) ≡ n + looked + 1 = omega arith in
-            A.rest n ∙ rw up (sym (holds s e b d (n + looked) lt f (looked-fine s e d (n + looked + 1) is refl) refl));
+            A.rest n ∙ rw up (sym (holds s e b d (n + looked) lt f (looked_fine s e d (n + looked + 1) is refl) refl));
         most = omega (arith, A.most);
         inside = omega arith;
       }
 
   -- where every successor passes, all are counted
   module _ (pass : (c : ℕ) → c < cells_of s → follows s e b c ≡ true → passes s e c ≡ true) where
-    counted : (d : ℕ) → d ≤ cells_of s → AtCell s e b d (howMany d (follows s e b))
+    counted : (d : ℕ) → d ≤ cells_of s → AtCell s e b d (how_many d (follows s e b))
     unfolding sum_to
-    counted zero le = cell-none
+    counted zero le = cell_none
     counted (suc d) le = go (follows s e b d) refl (counted d (omega arith))
       where
-        go : (f : Bool) → follows s e b d ≡ f → AtCell s e b d (howMany d (follows s e b)) → AtCell s e b (suc d) (howMany d (follows s e b) + pick (follows s e b d) 1 0)
-        go true f before = rw f (rw add-one at (cell_holds d _ le before f (passes-met s e d (pass d le f))))
+        go : (f : Bool) → follows s e b d ≡ f → AtCell s e b d (how_many d (follows s e b)) → AtCell s e b (suc d) (how_many d (follows s e b) + pick (follows s e b d) 1 0)
+        go true f before = rw f (rw add-one at (cell_holds d _ le before f (passes_met s e d (pass d le f))))
         go false f before =
-            let z : howMany d (follows s e b) + 0 ≡ howMany d (follows s e b) = omega arith in
-            rw (f, z) (rw add-one at (cell-over d _ le before f))
+            let z : how_many d (follows s e b) + 0 ≡ how_many d (follows s e b) = omega arith in
+            rw (f, z) (rw add-one at (cell_over d _ le before f))
 
-    all-counted : (looked cells : ℕ) → looked ≡ howMany (cells_of s) (follows s e b) → cells ≡ cells_of s → AtCell s e b cells looked
-    all-counted looked cells is all = rw (is, all) (counted (cells_of s) (omega arith))
+    all_counted : (looked cells : ℕ) → looked ≡ how_many (cells_of s) (follows s e b) → cells ≡ cells_of s → AtCell s e b cells looked
+    all_counted looked cells is all = rw (is, all) (counted (cells_of s) (omega arith))
 
 -- the runs of a box
 module _ (s : List ℕ) (e b : ℕ) (first last runs : List ℕ) (n size : ℕ) (B : BoxRanges s e b first last) (A : RunsOf s first last runs n size) where
-  same-many : howMany (cells_of s) (inRanges s first last) ≡ howMany (cells_of s) (follows s e b)
-  same-many = sum_same (cells_of s) _ _ (λ c lt. rw (B.same c))
+  same_many : how_many (cells_of s) (in_ranges s first last) ≡ how_many (cells_of s) (follows s e b)
+  same_many = sum_same (cells_of s) _ _ (λ c lt. rw (B.same c))
 
-  pub runs_number : n * size ≡ howMany (cells_of s) (follows s e b)
-  runs_number = A.number ∙ same-many
+  pub runs_number : n * size ≡ how_many (cells_of s) (follows s e b)
+  runs_number = A.number ∙ same_many
 
   pub runs_fit : (cells : ℕ) → cells ≡ cells_of s → cells ≤ 4096 → length runs ≡ 4096 → RunsFit runs n size cells
   runs_fit cells is most sized =
       record {
         sized = sized;
-        list-most = A.most;
-        most = omega (arith, runs_number, many-most (cells_of s) (follows s e b));
+        list_most = A.most;
+        most = omega (arith, runs_number, many_most (cells_of s) (follows s e b));
         fits = λ i lt. omega (arith, A.fits i lt);
       }
 
-  pub box-passes : (looked : ℕ) → looked ≡ runsPassing s e runs n size → looked ≡ n * size → (cells : ℕ) → cells ≡ cells_of s → AtCell s e b cells looked
-  box-passes looked P all cells is = all-counted s e b pass looked cells (all ∙ runs_number) is
+  pub box_passes : (looked : ℕ) → looked ≡ runs_passing s e runs n size → looked ≡ n * size → (cells : ℕ) → cells ≡ cells_of s → AtCell s e b cells looked
+  box_passes looked P all cells is = all_counted s e b pass looked cells (all ∙ runs_number) is
     where
       pass : (c : ℕ) → c < cells_of s → follows s e b c ≡ true → passes s e c ≡ true
       pass c lt f =
           let x = A.all c lt (sym (B.same c) ∙ f) in
           let j : get_or runs x.0 0 + (c - get_or runs x.0 0) ≡ c = omega (arith, x.2) in
-          rw j at (runs-all s e runs n size (sym P ∙ all) x.0 (c - get_or runs x.0 0) x.1 (omega (arith, x.2, x.3)))
+          rw j at (runs_all s e runs n size (sym P ∙ all) x.0 (c - get_or runs x.0 0) x.1 (omega (arith, x.2, x.3)))
 
 -- before box b, with so many looked up and no refusal found: the definition goes on from there with that count. The search began with count
 pub record AtBox (s : List ℕ) (e count b total : ℕ) : Type 0 where
-  pub rest : boxesFrom s e b total ≡ boxesFrom s e 0 count
+  pub rest : boxes_from s e b total ≡ boxes_from s e 0 count
   pub most : total ≤ 32768 * e + 4096 * b
 
 -- before cell d of box b
 pub record InBox (s : List ℕ) (e count b total d : ℕ) : Type 0 where
-  pub rest : cellsFrom s e b d total ≡ boxesFrom s e 0 count
+  pub rest : cells_from s e b d total ≡ boxes_from s e 0 count
   pub most : total ≤ 32768 * e + 4096 * b + d
   pub inside : d ≤ cells_of s
 
-pub box-none : (s : List ℕ) (e count : ℕ) → count ≤ 32768 * e → AtBox s e count 0 count
-box-none s e count le = record { rest = refl; most = omega arith }
+pub box_none : (s : List ℕ) (e count : ℕ) → count ≤ 32768 * e → AtBox s e count 0 count
+box_none s e count le = record { rest = refl; most = omega arith }
 
-pub box-begins : (s : List ℕ) (e count b total d looked : ℕ) → b < boxesOf s → AtBox s e count b total → AtCell s e b d looked → InBox s e count b (total + looked) d
-box-begins s e count b total d looked lt A C =
-    record { rest = sym (C.rest total) ∙ open-box s e b 0 total lt A.rest; most = omega (arith, A.most, C.most); inside = C.inside }
+pub box_begins : (s : List ℕ) (e count b total d looked : ℕ) → b < boxes_of s → AtBox s e count b total → AtCell s e b d looked → InBox s e count b (total + looked) d
+box_begins s e count b total d looked lt A C =
+    record { rest = sym (C.rest total) ∙ open_box s e b 0 total lt A.rest; most = omega (arith, A.most, C.most); inside = C.inside }
 
-pub box-shut : (s : List ℕ) (e count b total d : ℕ) → cells_of s ≤ 4096 → cells_of s ≤ d → InBox s e count b total d → AtBox s e count (b + 1) total
-box-shut s e count b total d few ge A = record { rest = shut-box s e b d total ge A.rest; most = omega (arith, A.most, A.inside) }
+pub box_shut : (s : List ℕ) (e count b total d : ℕ) → cells_of s ≤ 4096 → cells_of s ≤ d → InBox s e count b total d → AtBox s e count (b + 1) total
+box_shut s e count b total d few ge A = record { rest = shut_box s e b d total ge A.rest; most = omega (arith, A.most, A.inside) }
 
 -- one cell looked up, or passed over
 module _ (s : List ℕ) (e count b total d number one : ℕ) (lt : d < cells_of s) (A : InBox s e count b total d)
-    (number_is : number ≡ pick (follows s e b d) (successorFault s e d 0).number 0) (one-is : one ≡ pick (follows s e b d) 1 0) where
-  pub total-most : total + one ≤ 32768 * e + 4096 * b + (d + 1)
-  total-most = omega (arith, A.most, one-most (follows s e b d))
+    (number_is : number ≡ pick (follows s e b d) (successor_fault s e d 0).number 0) (one_is : one ≡ pick (follows s e b d) 1 0) where
+  pub total_most : total + one ≤ 32768 * e + 4096 * b + (d + 1)
+  total_most = omega (arith, A.most, one_most (follows s e b d))
 
-  pub cell-more : number ≡ 0 → InBox s e count b (total + one) (d + 1)
-  cell-more z = go (follows s e b d) refl
+  pub cell_more : number ≡ 0 → InBox s e count b (total + one) (d + 1)
+  cell_more z = go (follows s e b d) refl
     where
-      next : (rest : cellsFrom s e b (d + 1) (total + one) ≡ boxesFrom s e 0 count) → InBox s e count b (total + one) (d + 1)
-      next r = record { rest = r; most = total-most; inside = omega arith }
+      next : (rest : cells_from s e b (d + 1) (total + one) ≡ boxes_from s e 0 count) → InBox s e count b (total + one) (d + 1)
+      next r = record { rest = r; most = total_most; inside = omega arith }
 
       go : (f : Bool) → follows s e b d ≡ f → InBox s e count b (total + one) (d + 1)
-      go true f = let o : one ≡ 1 = rw f at one-is in next (rw o (holds s e b d total lt f (looked-fine s e d (total + 1) (rw f at number_is) z) A.rest))
-      go false f = let o : total + one ≡ total = omega (arith, rw f at one-is) in next (rw o (pass-over s e b d total lt f A.rest))
+      go true f = let o : one ≡ 1 = rw f at one_is in next (rw o (holds s e b d total lt f (looked_fine s e d (total + 1) (rw f at number_is) z) A.rest))
+      go false f = let o : total + one ≡ total = omega (arith, rw f at one_is) in next (rw o (pass_over s e b d total lt f A.rest))
 
-  pub cell-stops : (number ≡ 0 → ⊥) → result number e d (total + one) ≡ boxesFrom s e 0 count
-  cell-stops bad = go (follows s e b d) refl
+  pub cell_stops : (number ≡ 0 → ⊥) → report_with number e d (total + one) ≡ boxes_from s e 0 count
+  cell_stops bad = go (follows s e b d) refl
     where
-      go : (f : Bool) → follows s e b d ≡ f → result number e d (total + one) ≡ boxesFrom s e 0 count
+      go : (f : Bool) → follows s e b d ≡ f → report_with number e d (total + one) ≡ boxes_from s e 0 count
       go true f =
-          let o : one ≡ 1 = rw f at one-is in
-          let is : number ≡ (successorFault s e d 0).number = rw f at number_is in
-          let said = looked-refused s e d (total + 1) is bad in
+          let o : one ≡ 1 = rw f at one_is in
+          let is : number ≡ (successor_fault s e d 0).number = rw f at number_is in
+          let said = looked_refused s e d (total + 1) is bad in
           rw o (said ∙ stops s e b d total lt f (λ z. bad (ap (λ (r : Report). r.number) said ∙ z)) A.rest)
       go false f = absurd (bad (rw f at number_is))
 
-pub box-end : (s : List ℕ) (e count b total : ℕ) → boxesOf s ≤ b → AtBox s e count b total → result 0 0 0 total ≡ boxesFrom s e 0 count
-box-end s e count b total ge A = end-search s e b 0 total ge A.rest
+pub box_end : (s : List ℕ) (e count b total : ℕ) → boxes_of s ≤ b → AtBox s e count b total → report_with 0 0 0 total ≡ boxes_from s e 0 count
+box_end s e count b total ge A = end_search s e b 0 total ge A.rest

@@ -4,19 +4,19 @@ use mathlib.Core.Bool.{Bool, false}
 use mathlib.Core.List.{List}
 use mathlib.Core.Path.{◌≡◌, ◌∙◌}
 use lib.ListN.{get_or}
-use Rattle.certificate.specs.Loops.{anyTo}
-use Rattle.certificate.specs.Layout.{linksOf, boxesOf}
+use Rattle.certificate.specs.Loops.{any_to}
+use Rattle.certificate.specs.Layout.{links_of, boxes_of}
 use Rattle.certificate.proofs.Loops.{any_same}
-use Rattle.judging.specs.Overflow.{boxOverflows, entryOverflows}
+use Rattle.judging.specs.Overflow.{box_overflows, entry_overflows}
 use Rattle.entry_search.specs.Search.{EntryImage}
 
 -- under one box: some link of the image
-pub box-over : (s : List ℕ) (e b links : ℕ) (low high : List ℕ) (over : List Bool) {r : Bool} → links ≡ linksOf s → EntryImage s e b low high over
-    → r ≡ anyTo links (λ l. get_or over l false) → r ≡ boxOverflows s e b
-unfolding boxOverflows
-box-over s e b links low high over w I h = h ∙ rw w (any_same (linksOf s) _ _ I.over-is)
+pub box_over : (s : List ℕ) (e b links : ℕ) (low high : List ℕ) (over : List Bool) {r : Bool} → links ≡ links_of s → EntryImage s e b low high over
+    → r ≡ any_to links (λ l. get_or over l false) → r ≡ box_overflows s e b
+unfolding box_overflows
+box_over s e b links low high over w I h = h ∙ rw w (any_same (links_of s) _ _ I.over_is)
 
 -- after the last box
-pub all-boxes : (s : List ℕ) (e n : ℕ) {r : Bool} → n ≡ boxesOf s → r ≡ anyTo n (boxOverflows s e) → r ≡ entryOverflows s e
-unfolding entryOverflows
-all-boxes s e n w h = h ∙ rw w
+pub all_boxes : (s : List ℕ) (e n : ℕ) {r : Bool} → n ≡ boxes_of s → r ≡ any_to n (box_overflows s e) → r ≡ entry_overflows s e
+unfolding entry_overflows
+all_boxes s e n w h = h ∙ rw w

@@ -1,11 +1,11 @@
 // The successors of an entry under one arrival box, as ranges of intervals.
 ghost use Rattle.std.specs.Prelude.{◌≡◌, ℕ, ◌+◌, ◌*◌, ◌<◌, ◌≤◌, min, false, ltb, get_or, length};
-ghost use Rattle.certificate.specs.Layout.{maxBoxes, maxLinks, linksOf, boxesOf, entriesOf};
-ghost use Rattle.certificate.specs.Loops.{anyTo};
+ghost use Rattle.certificate.specs.Layout.{max_boxes, max_links, links_of, boxes_of, entries_of};
+ghost use Rattle.certificate.specs.Loops.{any_to};
 ghost use Rattle.network.specs.Laws.{Screened};
-ghost use Rattle.judging.specs.Overflow.{boxOverflows};
+ghost use Rattle.judging.specs.Overflow.{box_overflows};
 ghost use Rattle.cell_tables.specs.Tables.{CountsOf, EdgesOf};
-ghost use Rattle.entry_setup.specs.Tables.{arrivalRow, CapsOf, ArrivalsOf, EntryEnds, IsTask};
+ghost use Rattle.entry_setup.specs.Tables.{arrival_row, CapsOf, ArrivalsOf, EntryEnds, IsTask};
 ghost use Rattle.entry_search.specs.Search.{EntryImage, BoxRanges};
 ghost use Rattle.images.specs.Ends.{end_bound};
 
@@ -26,8 +26,8 @@ fn ends_under(
     ends: &mut [usize; limits::MAX_LINKS],
     over: &mut [bool; limits::MAX_LINKS],
 ) -> bool
-    requires { (links ≤ maxLinks) × (at + 2 * maxLinks ≤ maxBoxes * arrivalRow + 1) × ((l : ℕ) → l < links → (get_or before.now l 0 ≤ end_bound) × (get_or arrivals.now (at + 2 * l) 0 ≤ end_bound)) × (length ends.old ≡ maxLinks) × (length over.old ≡ maxLinks) }
-    ensures { (length ends.new ≡ maxLinks) × ((l : ℕ) → l < links → get_or ends.new l 0 ≡ min (get_or caps.now l 0) (get_or before.now l 0 + get_or arrivals.now (at + 2 * l) 0)) × (length over.new ≡ maxLinks) × ((l : ℕ) → l < links → get_or over.new l false ≡ ltb (get_or caps.now l 0) (get_or before.now l 0 + get_or arrivals.now (at + 2 * l) 0)) × (result ≡ anyTo links (λ l. get_or over.new l false)) }
+    requires { (links ≤ max_links) × (at + 2 * max_links ≤ max_boxes * arrival_row + 1) × ((l : ℕ) → l < links → (get_or before.now l 0 ≤ end_bound) × (get_or arrivals.now (at + 2 * l) 0 ≤ end_bound)) × (length ends.old ≡ max_links) × (length over.old ≡ max_links) }
+    ensures { (length ends.new ≡ max_links) × ((l : ℕ) → l < links → get_or ends.new l 0 ≡ min (get_or caps.now l 0) (get_or before.now l 0 + get_or arrivals.now (at + 2 * l) 0)) × (length over.new ≡ max_links) × ((l : ℕ) → l < links → get_or over.new l false ≡ ltb (get_or caps.now l 0) (get_or before.now l 0 + get_or arrivals.now (at + 2 * l) 0)) × (result ≡ any_to links (λ l. get_or over.new l false)) }
 {
     let mut any = false;
     for l in 0..links {
@@ -55,8 +55,8 @@ fn image_of(
     to: &mut [usize; limits::MAX_LINKS],
     over: &mut [bool; limits::MAX_LINKS],
 ) -> bool
-    requires { Screened s.now × (links ≡ linksOf s.now) × CapsOf s.now caps.now × ArrivalsOf s.now arrivals.now × EntryEnds s.now e low.now high.now × (e < entriesOf s.now) × (b < boxesOf s.now) × (length from.old ≡ maxLinks) × (length to.old ≡ maxLinks) × (length over.old ≡ maxLinks) }
-    ensures { EntryImage s.now e b from.new to.new over.new × (length from.new ≡ maxLinks) × (length to.new ≡ maxLinks) × (length over.new ≡ maxLinks) × (result ≡ boxOverflows s.now e b) }
+    requires { Screened s.now × (links ≡ links_of s.now) × CapsOf s.now caps.now × ArrivalsOf s.now arrivals.now × EntryEnds s.now e low.now high.now × (e < entries_of s.now) × (b < boxes_of s.now) × (length from.old ≡ max_links) × (length to.old ≡ max_links) × (length over.old ≡ max_links) }
+    ensures { EntryImage s.now e b from.new to.new over.new × (length from.new ≡ max_links) × (length to.new ≡ max_links) × (length over.new ≡ max_links) × (result ≡ box_overflows s.now e b) }
 {
     ends_under(
         links,
@@ -94,8 +94,8 @@ pub fn box_ranges(
     first: &mut [usize; limits::MAX_LINKS],
     last: &mut [usize; limits::MAX_LINKS],
 ) -> bool
-    requires { Screened s.now × CountsOf s.now counts.now × (links ≡ linksOf s.now) × CapsOf s.now caps.now × EdgesOf s.now edges.now × ArrivalsOf s.now arrivals.now × IsTask s.now task × EntryEnds s.now task.entry low.now high.now × (b < task.boxes) × (length first.old ≡ maxLinks) × (length last.old ≡ maxLinks) }
-    ensures { BoxRanges s.now task.entry b first.new last.new × (length first.new ≡ maxLinks) × (length last.new ≡ maxLinks) × (result ≡ boxOverflows s.now task.entry b) }
+    requires { Screened s.now × CountsOf s.now counts.now × (links ≡ links_of s.now) × CapsOf s.now caps.now × EdgesOf s.now edges.now × ArrivalsOf s.now arrivals.now × IsTask s.now task × EntryEnds s.now task.entry low.now high.now × (b < task.boxes) × (length first.old ≡ max_links) × (length last.old ≡ max_links) }
+    ensures { BoxRanges s.now task.entry b first.new last.new × (length first.new ≡ max_links) × (length last.new ≡ max_links) × (result ≡ box_overflows s.now task.entry b) }
 {
     let mut from = [0usize; limits::MAX_LINKS];
     let mut to = [0usize; limits::MAX_LINKS];

@@ -3,12 +3,12 @@ ghost use Rattle.std.specs.Prelude.{◌≡◌, ℕ, ◌+◌, ◌*◌, ◌<◌, �
 ghost use Rattle.certificate.specs.Facts.{Readable};
 ghost use Rattle.cell_tables.specs.Tables.{CountsOf, DigitsOf};
 ghost use Rattle.rank_tables.specs.Index.{RanksOf};
-ghost use Rattle.judging.specs.EntryTests.{follows, successorFault};
-ghost use Rattle.judging.specs.Overflow.{entryOverflows};
+ghost use Rattle.judging.specs.EntryTests.{follows, successor_fault};
+ghost use Rattle.judging.specs.Overflow.{entry_overflows};
 ghost use Rattle.entry_setup.specs.Tables.{TablesOf, EntryEnds, IsTask};
 ghost use Rattle.certificate.specs.Loops.{pick};
-ghost use Rattle.entry_search.specs.Search.{AtCell, BoxRanges, RunsFit, boxesFrom, columnPassing, passes, runPassing, runsPassing};
-ghost use Rattle.certificate.specs.Layout.{maxBoxes, maxCells, linksOf};
+ghost use Rattle.entry_search.specs.Search.{AtCell, BoxRanges, RunsFit, boxes_from, column_passing, passes, run_passing, runs_passing};
+ghost use Rattle.certificate.specs.Layout.{max_boxes, max_cells, links_of};
 
 use crate::boxes;
 use cell_tables::{digits as cells, tables as edges_table};
@@ -21,7 +21,7 @@ use successors::{seek, starts};
 // The number of the refusal of successor d: 14 where it is not listed with the next mode, 15 where its rank is not lower, else 0.
 fn successor_number(s: &[u8], task: Task, ranks: &[u32; rank_table::RANKS], d: usize) -> u8
     requires { IsTask s.now task × RanksOf s.now ranks.now × (d < task.cells) }
-    ensures { result ≡ (successorFault s.now task.entry d 0).number }
+    ensures { result ≡ (successor_fault s.now task.entry d 0).number }
 {
     let v = numbers::wide_quad(ranks[task.row + d]);
     if (v != 0) & (v <= numbers::wide_quad(task.bound)) {
@@ -58,7 +58,7 @@ fn run_passed(
     size: usize,
 ) -> u32
     requires { IsTask s.now task × RanksOf s.now ranks.now × (first + size ≤ task.cells) }
-    ensures { result ≡ runPassing s.now task.entry first size }
+    ensures { result ≡ run_passing s.now task.entry first size }
 {
     let mut passed: u32 = 0;
     for j in 0..size {
@@ -76,8 +76,8 @@ fn column_passed(
     n: usize,
     j: usize,
 ) -> u32
-    requires { IsTask s.now task × RanksOf s.now ranks.now × (n ≤ maxCells) × (length runs.now ≡ maxCells) × ((i : ℕ) → i < n → get_or runs.now i 0 + j < task.cells) }
-    ensures { result ≡ columnPassing s.now task.entry runs.now n j }
+    requires { IsTask s.now task × RanksOf s.now ranks.now × (n ≤ max_cells) × (length runs.now ≡ max_cells) × ((i : ℕ) → i < n → get_or runs.now i 0 + j < task.cells) }
+    ensures { result ≡ column_passing s.now task.entry runs.now n j }
 {
     let mut passed: u32 = 0;
     for i in 0..n {
@@ -96,7 +96,7 @@ fn short_runs(
     size: usize,
 ) -> u32
     requires { IsTask s.now task × RanksOf s.now ranks.now × RunsFit runs.now n size task.cells }
-    ensures { result ≡ runsPassing s.now task.entry runs.now n size }
+    ensures { result ≡ runs_passing s.now task.entry runs.now n size }
 {
     let mut passed: u32 = 0;
     for j in 0..size {
@@ -115,7 +115,7 @@ fn long_runs(
     size: usize,
 ) -> u32
     requires { IsTask s.now task × RanksOf s.now ranks.now × RunsFit runs.now n size task.cells }
-    ensures { result ≡ runsPassing s.now task.entry runs.now n size }
+    ensures { result ≡ runs_passing s.now task.entry runs.now n size }
 {
     let mut passed: u32 = 0;
     for i in 0..n {
@@ -137,7 +137,7 @@ fn runs_passed(
     size: usize,
 ) -> u32
     requires { IsTask s.now task × RanksOf s.now ranks.now × RunsFit runs.now n size task.cells }
-    ensures { result ≡ runsPassing s.now task.entry runs.now n size }
+    ensures { result ≡ runs_passing s.now task.entry runs.now n size }
 {
     if size < LONG_RUN {
         return short_runs(s, task, ranks, runs, n, size);
@@ -164,8 +164,8 @@ fn look<'a>(
     b: usize,
     d: usize,
 ) -> Looked
-    requires { IsTask s.now task × RanksOf s.now ranks.now × Readable s.now × DigitsOf s.now digits.now × (links ≡ linksOf s.now) × BoxRanges s.now task.entry b first.now last.now × (d < task.cells) }
-    ensures { (result.number ≡ pick (follows s.now task.entry b d) (successorFault s.now task.entry d 0).number 0) × (result.looked ≡ pick (follows s.now task.entry b d) 1 0) }
+    requires { IsTask s.now task × RanksOf s.now ranks.now × Readable s.now × DigitsOf s.now digits.now × (links ≡ links_of s.now) × BoxRanges s.now task.entry b first.now last.now × (d < task.cells) }
+    ensures { (result.number ≡ pick (follows s.now task.entry b d) (successor_fault s.now task.entry d 0).number 0) × (result.looked ≡ pick (follows s.now task.entry b d) 1 0) }
 {
     if !seek::in_ranges(s, digits, first, last, links, d) {
         return Looked {
@@ -197,8 +197,8 @@ fn whole_box<'a>(
     b: usize,
     runs: &mut [u16],
 ) -> Start
-    requires { IsTask s.now task × RanksOf s.now ranks.now × Readable s.now × CountsOf s.now counts.now × (links ≡ linksOf s.now) × BoxRanges s.now task.entry b first.now last.now × (length runs.old ≡ maxCells) }
-    ensures { AtCell s.now task.entry b result.cell result.looked × (length runs.new ≡ maxCells) }
+    requires { IsTask s.now task × RanksOf s.now ranks.now × Readable s.now × CountsOf s.now counts.now × (links ≡ links_of s.now) × BoxRanges s.now task.entry b first.now last.now × (length runs.old ≡ max_cells) }
+    ensures { AtCell s.now task.entry b result.cell result.looked × (length runs.new ≡ max_cells) }
 {
     let r = starts::runs_of(s, counts, first, last, links, runs);
     let n = r.count;
@@ -239,8 +239,8 @@ pub fn search_boxes(
     high: &[usize; limits::MAX_LINKS],
     count: u32,
 ) -> Searched
-    requires { TablesOf s.now links counts.now caps.now edges.now arrivals.now × RanksOf s.now ranks.now × DigitsOf s.now digits.now × IsTask s.now task × EntryEnds s.now task.entry low.now high.now × (count ≤ maxBoxes * maxCells * task.entry) × (length runs.old ≡ maxCells) }
-    ensures { (result.report ≡ boxesFrom s.now task.entry 0 count) × (result.report.count ≤ maxBoxes * maxCells * (task.entry + 1)) × (length runs.new ≡ maxCells) × (result.report.number ≡ 0 → result.over ≡ entryOverflows s.now task.entry) }
+    requires { TablesOf s.now links counts.now caps.now edges.now arrivals.now × RanksOf s.now ranks.now × DigitsOf s.now digits.now × IsTask s.now task × EntryEnds s.now task.entry low.now high.now × (count ≤ max_boxes * max_cells * task.entry) × (length runs.old ≡ max_cells) }
+    ensures { (result.report ≡ boxes_from s.now task.entry 0 count) × (result.report.count ≤ max_boxes * max_cells * (task.entry + 1)) × (length runs.new ≡ max_cells) × (result.report.number ≡ 0 → result.over ≡ entry_overflows s.now task.entry) }
 {
     let mut found = octets::accept();
     let mut total = count;

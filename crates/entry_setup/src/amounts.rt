@@ -1,7 +1,7 @@
 // Caps and arrivals in ten thousandths of a vehicle, as tables made once for a certificate. `start` is where the boxes begin.
 ghost use Rattle.std.specs.Prelude.{◌≡◌, ◌*◌, ◌≤◌, ◌<◌};
-ghost use Rattle.certificate.specs.Layout.{maxBoxes, maxLinks, linksOf, boxesOf, arrivalsStart};
-ghost use Rattle.entry_setup.specs.Tables.{arrivalRow, CapsOf, arrivalEntry, ArrivalsOf};
+ghost use Rattle.certificate.specs.Layout.{max_boxes, max_links, links_of, boxes_of, arrivals_start};
+ghost use Rattle.entry_setup.specs.Tables.{arrival_row, CapsOf, arrival_entry, ArrivalsOf};
 ghost use Rattle.octets.specs.Bounds.{start_bound};
 
 use box_records::arrivals;
@@ -14,7 +14,7 @@ pub const ARRIVAL_ROW: usize = 2 * limits::MAX_LINKS;
 pub const ARRIVALS: usize = limits::MAX_BOXES * ARRIVAL_ROW;
 
 pub fn caps_of(s: &[u8], links: usize) -> [usize; limits::MAX_LINKS]
-    requires { (links ≤ maxLinks) × (links ≡ linksOf s.now) }
+    requires { (links ≤ max_links) × (links ≡ links_of s.now) }
     ensures { CapsOf s.now result }
 {
     let mut caps = [0usize; limits::MAX_LINKS];
@@ -26,8 +26,8 @@ pub fn caps_of(s: &[u8], links: usize) -> [usize; limits::MAX_LINKS]
 
 // Entry k: field k % 16 of box k / 16. The fields of a box go link by link, the least that arrives and then the most.
 fn amount_at(s: &[u8], start: usize, links: usize, k: usize) -> usize
-    requires { (k < maxBoxes * arrivalRow) × (links ≤ maxLinks) × (links ≡ linksOf s.now) × (start ≤ start_bound) × (start ≡ arrivalsStart s.now) }
-    ensures { result ≡ arrivalEntry s.now k }
+    requires { (k < max_boxes * arrival_row) × (links ≤ max_links) × (links ≡ links_of s.now) × (start ≤ start_bound) × (start ≡ arrivals_start s.now) }
+    ensures { result ≡ arrival_entry s.now k }
 {
     let field = arrivals::arrival_at(start, links, k / ARRIVAL_ROW) + (2 + 2 * (k % ARRIVAL_ROW));
     10000 * octets::u16_at(s, field)
@@ -35,7 +35,7 @@ fn amount_at(s: &[u8], start: usize, links: usize, k: usize) -> usize
 
 // Sixteen a box.
 pub fn arrivals_of(s: &[u8], start: usize, links: usize, boxes: usize) -> [usize; ARRIVALS]
-    requires { (boxes ≤ maxBoxes) × (boxes ≡ boxesOf s.now) × (links ≤ maxLinks) × (links ≡ linksOf s.now) × (start ≤ start_bound) × (start ≡ arrivalsStart s.now) }
+    requires { (boxes ≤ max_boxes) × (boxes ≡ boxes_of s.now) × (links ≤ max_links) × (links ≡ links_of s.now) × (start ≤ start_bound) × (start ≡ arrivals_start s.now) }
     ensures { ArrivalsOf s.now result }
 {
     let mut amounts = [0usize; ARRIVALS];

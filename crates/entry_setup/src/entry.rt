@@ -1,14 +1,14 @@
 // What judging finds out once of an entry: its task, the edges of its cell, its limits, and the ends of its image before arrivals.
 ghost use Rattle.std.specs.Prelude.{◌≡◌, ℕ, ◌+◌, ◌<◌, ◌≤◌, length};
 ghost use Rattle.certificate.specs.Facts.{Readable};
-ghost use Rattle.certificate.specs.Layout.{maxLinks, link_at, link_size, linksOf, greenByteOf, cells_of, cell_of, signalOf, entriesOf};
+ghost use Rattle.certificate.specs.Layout.{max_links, link_at, link_size, links_of, green_byte_of, cells_of, cell_of, signal_of, entries_of};
 ghost use Rattle.reading.specs.ReadingResults.{LaidOut};
 ghost use Rattle.network.specs.Laws.{Screened};
 ghost use Rattle.octets.specs.Tables.{Holds};
 ghost use Rattle.supply.specs.Supply.{FirstTurns};
 ghost use Rattle.cell_tables.specs.Tables.{EdgesOf, DigitsOf};
-ghost use Rattle.network.specs.Network.{entryLimit};
-ghost use Rattle.entry_setup.specs.Tables.{CellEdges, limitBy, EntryLimits, EntryEnds, boundFor, IsTask};
+ghost use Rattle.network.specs.Network.{entry_limit};
+ghost use Rattle.entry_setup.specs.Tables.{CellEdges, limit_by, EntryLimits, EntryEnds, bound_for, IsTask};
 
 use crate::Task;
 use cell_tables::{digits, tables};
@@ -26,7 +26,7 @@ const ANY_RANK: u32 = 4294967295;
 // The most that the table of ranks, which has them raised by one, may have for a successor of an entry of that rank.
 fn bound_for(rank: usize) -> u32
     requires { rank < 65536 }
-    ensures { result ≡ boundFor rank }
+    ensures { result ≡ bound_for rank }
 {
     if rank == 0 {
         return ANY_RANK;
@@ -36,7 +36,7 @@ fn bound_for(rank: usize) -> u32
 
 // The task of entry e.
 pub fn task_of(s: &[u8], layout: Layout, e: usize) -> Task
-    requires { Readable s.now × LaidOut s.now layout × (e < entriesOf s.now) }
+    requires { Readable s.now × LaidOut s.now layout × (e < entries_of s.now) }
     ensures { IsTask s.now result × (result.entry ≡ e) }
 {
     let start = layout.entries_start;
@@ -62,7 +62,7 @@ pub fn cell_edges(
     lower: &mut [usize; limits::MAX_LINKS],
     upper: &mut [usize; limits::MAX_LINKS],
 )
-    requires { Readable s.now × DigitsOf s.now digits.now × EdgesOf s.now edges.now × (links ≡ linksOf s.now) × (cell < cells_of s.now) × (length lower.old ≡ maxLinks) × (length upper.old ≡ maxLinks) }
+    requires { Readable s.now × DigitsOf s.now digits.now × EdgesOf s.now edges.now × (links ≡ links_of s.now) × (cell < cells_of s.now) × (length lower.old ≡ max_links) × (length upper.old ≡ max_links) }
     ensures { CellEdges s.now cell lower.new upper.new }
 {
     for l in 0..links {
@@ -75,8 +75,8 @@ pub fn cell_edges(
 // The most that link l may send, by the bytes of the signal shown before and of the one shown: 0 where it is red, its flow where it is and
 // was green, its start flow where it was red.
 fn limit_under(s: &[u8], before: usize, byte: usize, l: usize) -> usize
-    requires { (l < maxLinks) × (link_at s.now l + link_size s.now ≤ length s.now) }
-    ensures { result ≡ limitBy s.now before byte l }
+    requires { (l < max_links) × (link_at s.now l + link_size s.now ≤ length s.now) }
+    ensures { result ≡ limit_by s.now before byte l }
 {
     if !signals::is_green(byte, l) {
         return 0;
@@ -90,8 +90,8 @@ fn limit_under(s: &[u8], before: usize, byte: usize, l: usize) -> usize
 
 // The same of each link.
 fn limits_under(s: &[u8], links: usize, before: usize, byte: usize) -> [usize; limits::MAX_LINKS]
-    requires { (links ≤ maxLinks) × ((l : ℕ) → l < links → link_at s.now l + link_size s.now ≤ length s.now) }
-    ensures { Holds links (limitBy s.now before byte) result }
+    requires { (links ≤ max_links) × ((l : ℕ) → l < links → link_at s.now l + link_size s.now ≤ length s.now) }
+    ensures { Holds links (limit_by s.now before byte) result }
 {
     let mut limits = [0usize; limits::MAX_LINKS];
     for l in 0..links {
@@ -103,8 +103,8 @@ fn limits_under(s: &[u8], links: usize, before: usize, byte: usize) -> [usize; l
 // The byte of the signal shown before entry e, whose own signal has that byte: by the memory of its mode. HD has no memory, and no start flow
 // either, so that the entry's own byte does.
 fn byte_before(s: &[u8], layout: Layout, e: usize, byte: usize) -> usize
-    requires { Readable s.now × LaidOut s.now layout × (e < entriesOf s.now) × (byte ≡ greenByteOf s.now (signalOf s.now e)) }
-    ensures { (l : ℕ) → limitBy s.now result byte l ≡ entryLimit s.now e l }
+    requires { Readable s.now × LaidOut s.now layout × (e < entries_of s.now) × (byte ≡ green_byte_of s.now (signal_of s.now e)) }
+    ensures { (l : ℕ) → limit_by s.now result byte l ≡ entry_limit s.now e l }
 {
     if !header_record::has_memory(s) {
         return byte;
@@ -120,7 +120,7 @@ fn byte_before(s: &[u8], layout: Layout, e: usize, byte: usize) -> usize
 
 // The most that each link may send under entry e.
 fn entry_limits(s: &[u8], layout: Layout, e: usize) -> [usize; limits::MAX_LINKS]
-    requires { Readable s.now × LaidOut s.now layout × (e < entriesOf s.now) }
+    requires { Readable s.now × LaidOut s.now layout × (e < entries_of s.now) }
     ensures { EntryLimits s.now e result }
 {
     let g = entries::signal_of(s, layout.entries_start, e);
@@ -139,7 +139,7 @@ pub fn entry_ends(
     low: &mut [usize; limits::MAX_LINKS],
     high: &mut [usize; limits::MAX_LINKS],
 )
-    requires { Screened s.now × LaidOut s.now layout × FirstTurns s.now first.now × (e < entriesOf s.now) × CellEdges s.now (cell_of s.now e) lower.now upper.now × (length low.old ≡ maxLinks) × (length high.old ≡ maxLinks) }
+    requires { Screened s.now × LaidOut s.now layout × FirstTurns s.now first.now × (e < entries_of s.now) × CellEdges s.now (cell_of s.now e) lower.now upper.now × (length low.old ≡ max_links) × (length high.old ≡ max_links) }
     ensures { EntryEnds s.now e low.new high.new }
 {
     let limits = entry_limits(s, layout, e);

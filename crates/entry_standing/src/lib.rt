@@ -1,7 +1,7 @@
 // How an entry stands before its successors are looked up: its cell is safe (12), and its rank is 0 exactly at the goal of its mode (13).
 ghost use Rattle.std.specs.Prelude.{◌≡◌, ◌≤◌};
-ghost use Rattle.certificate.specs.Layout.{maxEntries, maxLinks, linksOf, rank_of};
-ghost use Rattle.judging.specs.EntryTests.{isSafe, isGoal, isRanked, standingFault};
+ghost use Rattle.certificate.specs.Layout.{max_entries, max_links, links_of, rank_of};
+ghost use Rattle.judging.specs.EntryTests.{is_safe, is_goal, is_ranked, standing_fault};
 ghost use Rattle.entry_standing.specs.Where.{UpperEdges, WhereOf, GoalsIn};
 
 use certificate::{Report, limits};
@@ -27,7 +27,7 @@ struct GoalRow {
 
 // In H3, by the size of its records of modes, the goals of a mode stand in its record, in HD and H2 in those of the links.
 fn goal_row(s: &[u8], at: Where, e: usize) -> GoalRow
-    requires { WhereOf s.now at × (e ≤ maxEntries) }
+    requires { WhereOf s.now at × (e ≤ max_entries) }
     ensures { GoalsIn s.now e result }
 {
     if at.mode_size != limits::PLAIN_MODE_SIZE {
@@ -62,8 +62,8 @@ fn cell_fits(
     e: usize,
     upper: &[usize; limits::MAX_LINKS],
 ) -> CellFits
-    requires { (links ≤ maxLinks) × (links ≡ linksOf s.now) × GoalsIn s.now e row × UpperEdges s.now e upper.now }
-    ensures { (result.safe ≡ isSafe s.now e) × (result.goal ≡ isGoal s.now e) }
+    requires { (links ≤ max_links) × (links ≡ links_of s.now) × GoalsIn s.now e row × UpperEdges s.now e upper.now }
+    ensures { (result.safe ≡ is_safe s.now e) × (result.goal ≡ is_goal s.now e) }
 {
     let mut safe = true;
     let mut goal = true;
@@ -76,8 +76,8 @@ fn cell_fits(
 
 // The rank of entry e is 0 exactly at the goal.
 fn rank_fits(s: &[u8], e: usize, rank: usize, goal: bool) -> bool
-    requires { (rank ≡ rank_of s.now e) × (goal ≡ isGoal s.now e) }
-    ensures { result ≡ isRanked s.now e }
+    requires { (rank ≡ rank_of s.now e) × (goal ≡ is_goal s.now e) }
+    ensures { result ≡ is_ranked s.now e }
 {
     (rank == 0) == goal
 }
@@ -91,8 +91,8 @@ pub fn check_standing(
     upper: &[usize; limits::MAX_LINKS],
     count: u32,
 ) -> Report
-    requires { WhereOf s.now at × (e ≤ maxEntries) × (rank ≡ rank_of s.now e) × UpperEdges s.now e upper.now }
-    ensures { result ≡ standingFault s.now e count }
+    requires { WhereOf s.now at × (e ≤ max_entries) × (rank ≡ rank_of s.now e) × UpperEdges s.now e upper.now }
+    ensures { result ≡ standing_fault s.now e count }
 {
     let cell = cell_fits(s, at.links, goal_row(s, at, e), e, upper);
     if !cell.safe {

@@ -10,8 +10,8 @@ use Rattle.exports.specs.Exported.{Answers, Called}
 pub no_room : {numbers out : List ℕ} → length out < length numbers → Answers numbers out out 255
 no_room h = record { filled = λ k. absurd (omega arith); short = λ k. (refl, refl) }
 
-pub nothing-done : {numbers due before out : List ℕ} → length out < length numbers → Called numbers due before before out out 255
-nothing-done h = record { answer = no_room h; done = λ k. absurd (omega arith); undone = λ k. refl }
+pub nothing_done : {numbers due before out : List ℕ} → length out < length numbers → Called numbers due before before out out 255
+nothing_done h = record { answer = no_room h; done = λ k. absurd (omega arith); undone = λ k. refl }
 
 -- `out` has room
 pub answered : {numbers out out' : List ℕ} {r : ℕ} → length numbers ≤ length out

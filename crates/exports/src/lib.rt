@@ -1,11 +1,11 @@
 // The library's calls for programs in other languages, on numbers and slices. Each is thin: it lends what it is lent to a proved call.
 // A call's answer goes to the front of `out`, on refusal too; an `out` that is too short gets 255, and nothing changes.
 ghost use Rattle.std.specs.Prelude.{◌≡◌, ◌≤◌, [], ◌∷◌, ◌++◌, length, drop};
-ghost use Rattle.network.specs.Conditions.{screeningOf};
-ghost use Rattle.judging.specs.Verdict.{verdictOf};
-ghost use Rattle.judging.specs.Overflow.{overflowsOf};
-ghost use Rattle.covering.specs.Comparing.{comparisonOf, reportOf};
-ghost use Rattle.exports.specs.Exported.{reportNumbers, verdictNumbers, comparisonNumbers, Answers};
+ghost use Rattle.network.specs.Conditions.{screening_of};
+ghost use Rattle.judging.specs.Verdict.{verdict_of};
+ghost use Rattle.judging.specs.Overflow.{overflows_of};
+ghost use Rattle.covering.specs.Comparing.{comparison_of, report_of};
+ghost use Rattle.exports.specs.Exported.{report_numbers, verdict_numbers, comparison_numbers, Answers};
 ghost use Rattle.exports.specs.Calls.{ListCall, FreshCall, LoadCall, QueryCall, WriteCall};
 
 use certificate::Report;
@@ -16,7 +16,7 @@ use verdict::Verdict;
 // The four numbers of a report go to the front of `out`; the result is the report's number.
 fn put_report(report: Report, out: &mut [u32]) -> u32
     requires { 4 ≤ length out.old }
-    ensures { (result ≡ report.number) × (out.new ≡ reportNumbers report ++ drop 4 out.old) }
+    ensures { (result ≡ report.number) × (out.new ≡ report_numbers report ++ drop 4 out.old) }
 {
     let number = report.number as u32;
     out[0] = number;
@@ -29,7 +29,7 @@ fn put_report(report: Report, out: &mut [u32]) -> u32
 // A verdict's report and the number of entries that may turn arrivals away go to the front of `out`; the result is the report's number.
 fn put_verdict(verdict: Verdict, out: &mut [u32]) -> u32
     requires { 5 ≤ length out.old }
-    ensures { (result ≡ verdict.report.number) × (out.new ≡ verdictNumbers verdict.report verdict.overflows ++ drop 5 out.old) }
+    ensures { (result ≡ verdict.report.number) × (out.new ≡ verdict_numbers verdict.report verdict.overflows ++ drop 5 out.old) }
 {
     let number = put_report(verdict.report, out);
     out[4] = verdict.overflows;
@@ -39,7 +39,7 @@ fn put_verdict(verdict: Verdict, out: &mut [u32]) -> u32
 // A comparison's report and which of the two is better go to the front of `out`; the result is the report's number.
 fn put_comparison(found: Comparison, out: &mut [u32]) -> u32
     requires { 5 ≤ length out.old }
-    ensures { (result ≡ (reportOf found).number) × (out.new ≡ comparisonNumbers found ++ drop 5 out.old) }
+    ensures { (result ≡ (report_of found).number) × (out.new ≡ comparison_numbers found ++ drop 5 out.old) }
 {
     let number = put_report(answers::report_of(found), out);
     out[4] = answers::better_number(found);
@@ -49,7 +49,7 @@ fn put_comparison(found: Comparison, out: &mut [u32]) -> u32
 // A query's report, signal and green byte go to the front of `out`; the result is the report's number.
 fn put_shown(report: Report, signal: u8, green: u8, out: &mut [u32]) -> u32
     requires { 6 ≤ length out.old }
-    ensures { (result ≡ report.number) × (out.new ≡ (reportNumbers report ++ (signal ∷ green ∷ [])) ++ drop 6 out.old) }
+    ensures { (result ≡ report.number) × (out.new ≡ (report_numbers report ++ (signal ∷ green ∷ [])) ++ drop 6 out.old) }
 {
     let number = put_report(report, out);
     out[4] = signal as u32;
@@ -60,7 +60,7 @@ fn put_shown(report: Report, signal: u8, green: u8, out: &mut [u32]) -> u32
 // The tests that come before 12, of any bytes.
 #[unsafe(no_mangle)]
 pub extern "C" fn dergvost_screen(s: &[u8], out: &mut [u32]) -> u32
-    ensures { Answers (reportNumbers (screeningOf s.now)) out.old out.new result }
+    ensures { Answers (report_numbers (screening_of s.now)) out.old out.new result }
 {
     if out.len() < 4 {
         return 255;
@@ -72,7 +72,7 @@ pub extern "C" fn dergvost_screen(s: &[u8], out: &mut [u32]) -> u32
 // The verdict of any bytes, with the number of entries that may turn arrivals away.
 #[unsafe(no_mangle)]
 pub extern "C" fn dergvost_judge(s: &[u8], out: &mut [u32]) -> u32
-    ensures { Answers (verdictNumbers (verdictOf s.now) (overflowsOf s.now)) out.old out.new result }
+    ensures { Answers (verdict_numbers (verdict_of s.now) (overflows_of s.now)) out.old out.new result }
 {
     if out.len() < 5 {
         return 255;
@@ -84,7 +84,7 @@ pub extern "C" fn dergvost_judge(s: &[u8], out: &mut [u32]) -> u32
 // Which of any two byte strings is the better certificate, or the refusal of the first that is not accepted.
 #[unsafe(no_mangle)]
 pub extern "C" fn dergvost_compare(s: &[u8], t: &[u8], out: &mut [u32]) -> u32
-    ensures { Answers (comparisonNumbers (comparisonOf s.now t.now)) out.old out.new result }
+    ensures { Answers (comparison_numbers (comparison_of s.now t.now)) out.old out.new result }
 {
     if out.len() < 5 {
         return 255;

@@ -5,62 +5,62 @@ use mathlib.Core.Bool.{true}
 use mathlib.Core.Path.{◌≡◌}
 use native.Mathlib.Nat.{mul_assoc}
 use native.Mathlib.Omega.{arith}
-use Rattle.certificate.specs.Layout.{linksOf}
+use Rattle.certificate.specs.Layout.{links_of}
 use Rattle.certificate.proofs.Loops.{every-each, each-every}
-use Rattle.network.specs.Network.{networkOf}
+use Rattle.network.specs.Network.{network_of}
 use Rattle.network.specs.Flow.{next}
-use Rattle.grid.specs.Cells.{intervalIn}
-use Rattle.grid.specs.Successors.{imageLow, imageHigh, is_successor}
+use Rattle.grid.specs.Cells.{interval_in}
+use Rattle.grid.specs.Successors.{image_low, image_high, is_successor}
 use Rattle.grid.specs.Laws.{PointIn, SuccessorIsPoint, StepsToSuccessor}
-use Rattle.grid.proofs.Numbers.{is-choice}
-use Rattle.grid.proofs.Edges.{in-closed-cell}
-use Rattle.grid.proofs.Images.{image-is-smallest, low-at-most-high}
-use Rattle.grid.proofs.Meets.{Meets, meets-plain, plain-meets, point-meets, meeting, meeting-held}
+use Rattle.grid.proofs.Numbers.{is_choice}
+use Rattle.grid.proofs.Edges.{in_closed_cell}
+use Rattle.grid.proofs.Images.{image_is_smallest, low_at_most_high}
+use Rattle.grid.proofs.Meets.{Meets, meets_plain, plain_meets, point_meets, meeting, meeting_held}
 
 -- a successor, link by link
-pub successor-each : (s : List ℕ) (limit : ℕ → ℕ) (b c d : ℕ) → is_successor s limit b c d ≡ true → (l : ℕ) → l < linksOf s → Meets s l (intervalIn s d l) (imageLow s limit b c l) (imageHigh s limit b c l)
+pub successor_each : (s : List ℕ) (limit : ℕ → ℕ) (b c d : ℕ) → is_successor s limit b c d ≡ true → (l : ℕ) → l < links_of s → Meets s l (interval_in s d l) (image_low s limit b c l) (image_high s limit b c l)
 unfolding is_successor
-successor-each s limit b c d e l lt = meets-plain _ _ _ _ _ (every-each _ _ e l lt)
+successor_each s limit b c d e l lt = meets_plain _ _ _ _ _ (every-each _ _ e l lt)
 
-pub each-successor : (s : List ℕ) (limit : ℕ → ℕ) (b c d : ℕ) → ((l : ℕ) → l < linksOf s → Meets s l (intervalIn s d l) (imageLow s limit b c l) (imageHigh s limit b c l)) → is_successor s limit b c d ≡ true
+pub each_successor : (s : List ℕ) (limit : ℕ → ℕ) (b c d : ℕ) → ((l : ℕ) → l < links_of s → Meets s l (interval_in s d l) (image_low s limit b c l) (image_high s limit b c l)) → is_successor s limit b c d ≡ true
 unfolding is_successor
-each-successor s limit b c d h = each-every _ _ (λ l lt. plain-meets _ _ _ _ _ (h l lt))
+each_successor s limit b c d h = each-every _ _ (λ l lt. plain_meets _ _ _ _ _ (h l lt))
 
-pub point-successor : (s : List ℕ) (limit : ℕ → ℕ) (b c d : ℕ) → PointIn s limit b c d → is_successor s limit b c d ≡ true
-point-successor s limit b c d P = each-successor s limit b c d (λ l lt. point-meets s l _ P.scale (P.point l) _ _ P.scale-least (P.cell.holds l lt) (P.low l lt) (P.high l lt))
+pub point_successor : (s : List ℕ) (limit : ℕ → ℕ) (b c d : ℕ) → PointIn s limit b c d → is_successor s limit b c d ≡ true
+point_successor s limit b c d P = each_successor s limit b c d (λ l lt. point_meets s l _ P.scale (P.point l) _ _ P.scale_least (P.cell.holds l lt) (P.low l lt) (P.high l lt))
 
-pub successor-is-point : SuccessorIsPoint
+pub successor_is_point : SuccessorIsPoint
 unfolding meeting
-successor-is-point s R green limit S b c d hb hd = (has-point, point-successor s limit b c d)
+successor_is_point s R green limit S b c d hb hd = (has_point, point_successor s limit b c d)
   where
-    has-point : is_successor s limit b c d ≡ true → PointIn s limit b c d
-    has-point e =
+    has_point : is_successor s limit b c d ≡ true → PointIn s limit b c d
+    has_point e =
         record {
           scale = 10000;
-          point = λ l. meeting s l (intervalIn s d l) (imageLow s limit b c l);
-          scale-least = omega arith;
+          point = λ l. meeting s l (interval_in s d l) (image_low s limit b c l);
+          scale_least = omega arith;
           cell =
               record {
                 exists = hd;
-                holds = λ l lt. meeting-held s R l _ _ _ lt (is-choice s R d l lt) (successor-each s limit b c d e l lt);
+                holds = λ l lt. meeting_held s R l _ _ _ lt (is_choice s R d l lt) (successor_each s limit b c d e l lt);
               };
           low = λ l lt. omega arith;
-          high = λ l lt. omega (arith, (successor-each s limit b c d e l lt).lower, low-at-most-high s limit b c l (image-is-smallest s R green limit S b c hb) lt);
+          high = λ l lt. omega (arith, (successor_each s limit b c d e l lt).lower, low_at_most_high s limit b c l (image_is_smallest s R green limit S b c hb) lt);
         }
 
-pub steps-to-successor : StepsToSuccessor
-steps-to-successor s R green limit S b c d D x a hb hD C A N =
-    point-successor s limit b c d
+pub steps_to_successor : StepsToSuccessor
+steps_to_successor s R green limit S b c d D x a hb hD C A N =
+    point_successor s limit b c d
     (record {
       scale = 10000 * D;
-      point = next (networkOf s) limit D x a;
-      scale-least = omega arith;
+      point = next (network_of s) limit D x a;
+      scale_least = omega arith;
       cell = N;
       low = λ l lt. rw mul_assoc (omega (arith, held l lt));
       high = λ l lt. rw mul_assoc (omega (arith, held l lt));
     })
   where
-    held : (l : ℕ) → l < linksOf s
-        → (D * imageLow s limit b c l ≤ next (networkOf s) limit D x a l)
-        × (next (networkOf s) limit D x a l ≤ D * imageHigh s limit b c l)
-    held = (image-is-smallest s R green limit S b c hb).holds D x a (in-closed-cell s c D x C) A
+    held : (l : ℕ) → l < links_of s
+        → (D * image_low s limit b c l ≤ next (network_of s) limit D x a l)
+        × (next (network_of s) limit D x a l ≤ D * image_high s limit b c l)
+    held = (image_is_smallest s R green limit S b c hb).holds D x a (in_closed_cell s c D x C) A

@@ -1,7 +1,7 @@
 // HD, H2 or H3: the kind, how many links, turns, signals, modes, arrival boxes and entries there are, and its tests (refusal 3).
 ghost use Rattle.std.specs.Prelude.{◌≡◌, ◌<◌, ◌≤◌, length};
-ghost use Rattle.certificate.specs.Layout.{remembers, takesTurns, linksOf, turnsOf, signalsOf, modesOf, boxesOf, entriesOf};
-ghost use Rattle.certificate.specs.Records.{headerOk, headerMarked, headerFault};
+ghost use Rattle.certificate.specs.Layout.{remembers, takes_turns, links_of, turns_of, signals_of, modes_of, boxes_of, entries_of};
+ghost use Rattle.certificate.specs.Records.{header_ok, header_marked, header_fault};
 
 use certificate::{Report, limits};
 
@@ -29,49 +29,49 @@ pub fn has_memory_within(s: &[u8]) -> bool
 
 // Whether the kind is H3: modes have goals in turn.
 pub fn takes_turns(s: &[u8]) -> bool
-    ensures { result ≡ takesTurns s.now }
+    ensures { result ≡ takes_turns s.now }
 {
     octets::byte_at(s, 1) == GOALS_KIND
 }
 
 pub fn links_of(s: &[u8]) -> usize
-    ensures { (result ≡ linksOf s.now) × (result < 256) }
+    ensures { (result ≡ links_of s.now) × (result < 256) }
 {
     octets::byte_at(s, 2)
 }
 
 pub fn turns_of(s: &[u8]) -> usize
-    ensures { (result ≡ turnsOf s.now) × (result < 256) }
+    ensures { (result ≡ turns_of s.now) × (result < 256) }
 {
     octets::byte_at(s, 3)
 }
 
 pub fn signals_of(s: &[u8]) -> usize
-    ensures { (result ≡ signalsOf s.now) × (result < 256) }
+    ensures { (result ≡ signals_of s.now) × (result < 256) }
 {
     octets::byte_at(s, 4)
 }
 
 pub fn modes_of(s: &[u8]) -> usize
-    ensures { (result ≡ modesOf s.now) × (result < 256) }
+    ensures { (result ≡ modes_of s.now) × (result < 256) }
 {
     octets::byte_at(s, 5)
 }
 
 pub fn boxes_of(s: &[u8]) -> usize
-    ensures { (result ≡ boxesOf s.now) × (result < 256) }
+    ensures { (result ≡ boxes_of s.now) × (result < 256) }
 {
     octets::byte_at(s, 6)
 }
 
 pub fn entries_of(s: &[u8]) -> usize
-    ensures { (result ≡ entriesOf s.now) × (result < 65536) }
+    ensures { (result ≡ entries_of s.now) × (result < 65536) }
 {
     octets::u16_at(s, 7)
 }
 
 fn counts_ok(s: &[u8]) -> bool
-    ensures { result ≡ headerOk s.now }
+    ensures { result ≡ header_ok s.now }
 {
     let links = links_of(s);
     let turns = turns_of(s);
@@ -94,7 +94,7 @@ fn counts_ok(s: &[u8]) -> bool
 
 // The mark is HD, H2 or H3.
 fn header_marked(s: &[u8]) -> bool
-    ensures { result ≡ headerMarked s.now }
+    ensures { result ≡ header_marked s.now }
 {
     octets::marked_as(s, 0, 72, 68)
         | octets::marked_as(s, 0, 72, START_FLOW_KIND)
@@ -102,7 +102,7 @@ fn header_marked(s: &[u8]) -> bool
 }
 
 pub fn check_header(s: &[u8]) -> Report
-    ensures { result ≡ headerFault s.now }
+    ensures { result ≡ header_fault s.now }
 {
     let opening = octets::check_opened(s, 0, header_marked(s), limits::HEADER_SIZE);
     octets::record_result(opening, counts_ok(s), 3, 0)

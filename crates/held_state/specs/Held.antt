@@ -4,47 +4,47 @@ use Rattle.std.specs.Prelude.{ℕ, List, ◌≡◌}
 use Rattle.certificate.specs.declared.Report.{Report}
 use Rattle.certificate.specs.Checks.{refusal, fine, need}
 use Rattle.certificate.specs.Loops.{pick}
-use Rattle.judging.specs.Verdict.{verdictOf}
-use Rattle.judging.specs.Overflow.{overflowsOf}
+use Rattle.judging.specs.Verdict.{verdict_of}
+use Rattle.judging.specs.Overflow.{overflows_of}
 use Rattle.verdict.specs.declared.Verdict.{Verdict}
 use Rattle.runs.specs.Claim.{RunClaim}
 use Rattle.controller.specs.declared.Shown.{Shown}
-use Rattle.controller.specs.State.{freshState, holding}
-use Rattle.controller.specs.Query.{queryOf}
+use Rattle.controller.specs.State.{fresh_state, holding}
+use Rattle.controller.specs.Query.{query_of}
 use Rattle.held_state.specs.declared.Display.{Display}
-use Rattle.packed_state.specs.State.{hasStateSize, heldIn, bytesAfter}
+use Rattle.packed_state.specs.State.{has_state_size, held_in, bytes_after}
 
 -- a fresh state
-abbrev pub freshReport : List ℕ → Report
-freshReport state = need (hasStateSize state) (refusal 18 0) fine
+abbrev pub fresh_report : List ℕ → Report
+fresh_report state = need (has_state_size state) (refusal 18 0) fine
 
 pub record HeldFresh (state state' : List ℕ) (r : Report) : Type 0 where
-  pub report : r ≡ freshReport state
-  pub bytes : state' ≡ bytesAfter (freshReport state).number freshState state
+  pub report : r ≡ fresh_report state
+  pub bytes : state' ≡ bytes_after (fresh_report state).number fresh_state state
 
 -- a load: 18 comes before the verdict's refusals; the next state holds its own copy, and its runs keep the claim
-abbrev pub loadReport : List ℕ → List ℕ → Report
-loadReport state s = need (hasStateSize state) (refusal 18 0) (verdictOf s)
+abbrev pub load_report : List ℕ → List ℕ → Report
+load_report state s = need (has_state_size state) (refusal 18 0) (verdict_of s)
 
 -- the number beside the count that an acceptance has
-abbrev pub loadOverflows : List ℕ → List ℕ → ℕ
-loadOverflows state s = pick (hasStateSize state) (overflowsOf s) 0
+abbrev pub load_overflows : List ℕ → List ℕ → ℕ
+load_overflows state s = pick (has_state_size state) (overflows_of s) 0
 
 pub record HeldLoad (s state state' : List ℕ) (v : Verdict) : Type 0 where
-  pub report : v.report ≡ loadReport state s
-  pub overflows : v.overflows ≡ loadOverflows state s
-  pub bytes : state' ≡ bytesAfter (loadReport state s).number (holding s) state
-  pub runs : (loadReport state s).number ≡ 0 → RunClaim s
+  pub report : v.report ≡ load_report state s
+  pub overflows : v.overflows ≡ load_overflows state s
+  pub bytes : state' ≡ bytes_after (load_report state s).number (holding s) state
+  pub runs : (load_report state s).number ≡ 0 → RunClaim s
 
 -- a query of the state that is held
-abbrev pub shownFor : List ℕ → List ℕ → ℕ → Shown
-shownFor state queues scale = queryOf (heldIn state) queues scale
+abbrev pub shown_for : List ℕ → List ℕ → ℕ → Shown
+shown_for state queues scale = query_of (held_in state) queues scale
 
 -- what is displayed of an answer: all but the state
-abbrev pub displayOf : Shown → Display
-displayOf shown = record { report = shown.report; signal = shown.signal; green = shown.green }
+abbrev pub display_of : Shown → Display
+display_of shown = record { report = shown.report; signal = shown.signal; green = shown.green }
 
 -- an answer is displayed, and its state is the next
 pub record Displayed (shown : Shown) (state state' : List ℕ) (r : Display) : Type 0 where
-  pub display : r ≡ displayOf shown
-  pub bytes : state' ≡ bytesAfter shown.report.number shown.state state
+  pub display : r ≡ display_of shown
+  pub bytes : state' ≡ bytes_after shown.report.number shown.state state

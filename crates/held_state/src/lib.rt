@@ -1,10 +1,10 @@
 // Calls on a state that is lent as bytes. A slice of any other length than a state's gets 18, and a refusal leaves the bytes as they were.
 ghost use Rattle.std.specs.Prelude.{◌≡◌, length};
 ghost use Rattle.certificate.specs.Checks.{refusal};
-ghost use Rattle.controller.specs.State.{freshState};
+ghost use Rattle.controller.specs.State.{fresh_state};
 ghost use Rattle.controller.specs.Query.{refused};
-ghost use Rattle.packed_state.specs.State.{stateSize};
-ghost use Rattle.held_state.specs.Held.{shownFor, displayOf, HeldFresh, HeldLoad, Displayed};
+ghost use Rattle.packed_state.specs.State.{state_size};
+ghost use Rattle.held_state.specs.Held.{shown_for, display_of, HeldFresh, HeldLoad, Displayed};
 
 use certificate::Report;
 use controller::{Controller, Shown};
@@ -20,7 +20,7 @@ pub struct Display {
 
 // What is displayed where the slice has another length: 18.
 pub fn no_state() -> Display
-    ensures { result ≡ displayOf (refused freshState (refusal 18 0)) }
+    ensures { result ≡ display_of (refused fresh_state (refusal 18 0)) }
 {
     let report = octets::refuse(18, 0);
     Display {
@@ -32,7 +32,7 @@ pub fn no_state() -> Display
 
 // Keeps the answer's state in the lent slice, where the answer's number says that it succeeds; the rest is displayed.
 pub fn keep(shown: Shown, state: &mut [u8]) -> Display
-    requires { length state.old ≡ stateSize }
+    requires { length state.old ≡ state_size }
     ensures { Displayed shown state.old state.new result }
 {
     let report = shown.report;
@@ -77,7 +77,7 @@ pub fn load(state: &mut [u8], s: &[u8]) -> Verdict
 
 // What the state that is held shows for queues over a scale, and the next state.
 pub fn query(state: &mut [u8], queues: &[u32], scale: u32) -> Display
-    ensures { Displayed (shownFor state.old queues.now scale) state.old state.new result }
+    ensures { Displayed (shown_for state.old queues.now scale) state.old state.new result }
 {
     if !packed_state::has_state_size(state) {
         return no_state();

@@ -9,25 +9,25 @@ use borrow.Author.Tests.{eqb-true, eqb-false, leb-true, leb-false, le-leb, lt-le
 use lib.Dec.{leb, eqb}
 use lib.ListN.{length}
 use Rattle.certificate.specs.Loops.{pick, sum_to}
-use Rattle.certificate.specs.Layout.{linksOf, turnsOf, fromOf, toOf, share_of}
+use Rattle.certificate.specs.Layout.{links_of, turns_of, from_of, to_of, share_of}
 use Rattle.certificate.specs.Facts.{Readable}
-use Rattle.network.specs.Network.{Network, networkOf}
-use Rattle.network.specs.Flow.{leastTo, supply, sent, gross}
-use Rattle.network.specs.Image.{lowCorner, highCorner}
-use Rattle.supply.specs.Supply.{at, FirstTurns, supplyAt, Supplies, sentBy, TwoLeast}
+use Rattle.network.specs.Network.{Network, network_of}
+use Rattle.network.specs.Flow.{least_to, supply, sent, gross}
+use Rattle.network.specs.Image.{low_corner, high_corner}
+use Rattle.supply.specs.Supply.{at, FirstTurns, supply_at, Supplies, sent_by, TwoLeast}
 use Rattle.images.specs.Ends.{PassedOn, pushed, EndsSoFar, EndsBefore}
 use Rattle.screening.specs.NetworkParts.{into}
-use Rattle.supply.proofs.LeastNumbers.{least-same}
-use Rattle.supply.proofs.TwoLeast.{sent-least}
-use Rattle.network.proofs.Sending.{least-base, sent-queue, sent-none}
-use Rattle.screening.proofs.Summing.{sum-flat, sum_alike}
-use Rattle.images.proofs.Outward.{begin-first, begin-last, begin-ascends, from-here, least-between}
+use Rattle.supply.proofs.LeastNumbers.{least_same}
+use Rattle.supply.proofs.TwoLeast.{sent_least}
+use Rattle.network.proofs.Sending.{least_base, sent_queue, sent_none}
+use Rattle.screening.proofs.Summing.{sum_flat, sum_alike}
+use Rattle.images.proofs.Outward.{begin_first, begin_last, begin_ascends, from_here, least_between}
 use Rattle.network.proofs.Screening.{joins_of}
-use Rattle.images.proofs.Corners.{corner-gross}
+use Rattle.images.proofs.Corners.{corner_gross}
 
 -- at scale 1 a supply is that of whole vehicles
-supply-is : (s : List ℕ) (limit y : ℕ → ℕ) (u : ℕ) → supplyAt s y u ≡ supply (networkOf s) limit 1 y u
-supply-is s limit y u = rw one-mul
+supply_is : (s : List ℕ) (limit y : ℕ → ℕ) (u : ℕ) → supply_at s y u ≡ supply (network_of s) limit 1 y u
+supply_is s limit y u = rw one-mul
 
 -- what counts before link l + 1: what counts before l, and l's
 up_to : (l k v : ℕ) → pick (leb (l + 1) k) 0 v ≡ pick (leb l k) 0 v + pick (eqb k l) v 0
@@ -44,23 +44,23 @@ up_to l k v = go (eqb k l) refl
 -- own are the queues of the side, other those of the other side
 module _ {s first : List ℕ} (R : Readable s) (F : FirstTurns s first) (limit own other : ℕ → ℕ) where
   abbrev N : Network
-  N = networkOf s
+  N = network_of s
 
   -- what turn t carries
   abbrev carried : ℕ → ℕ
   carried t = share_of s t * pushed N limit own other t
 
   -- before any link sends
-  pub side-none : (side : List ℕ) → linksOf s ≤ length side → ((k : ℕ) → k < linksOf s → (at side k ≡ 10000 * own k) × (own k ≤ 10000)) → EndsSoFar s limit own other first 0 side
+  pub side_none : (side : List ℕ) → links_of s ≤ length side → ((k : ℕ) → k < links_of s → (at side k ≡ 10000 * own k) × (own k ≤ 10000)) → EndsSoFar s limit own other first 0 side
   unfolding sum_to
-  side-none side long h =
+  side_none side long h =
       record {
         long = long;
-        is = λ k lk. rw (begin-first s first R F, le-leb 0 k (omega arith)) (omega (arith, h k lk));
+        is = λ k lk. rw (begin_first s first R F, le-leb 0 k (omega arith)) (omega (arith, h k lk));
         most = λ k lk. omega (arith, h k lk);
       }
 
-  module _ (l : ℕ) (hl : l < linksOf s) where
+  module _ (l : ℕ) (hl : l < links_of s) where
     -- where the turns of link l begin and end
     abbrev from : ℕ
     from = at first l
@@ -72,39 +72,39 @@ module _ {s first : List ℕ} (R : Readable s) (F : FirstTurns s first) (limit o
     one_of = omega (arith, R.header)
 
     -- a red link sends nothing
-    pub side-red : (side : List ℕ) → limit l ≡ 0 → EndsSoFar s limit own other first l side → EndsSoFar s limit own other first (l + 1) side
-    side-red side red S =
+    pub side_red : (side : List ℕ) → limit l ≡ 0 → EndsSoFar s limit own other first l side → EndsSoFar s limit own other first (l + 1) side
+    side_red side red S =
         record {
           long = S.long;
-          is = λ k lk. rw (up_to l k, flat k) (omega (arith, S.is k lk, own-none k (eqb k l) refl));
-          most = λ k lk. omega (arith, S.most k lk, begin-ascends s first R F l one_of);
+          is = λ k lk. rw (up_to l k, flat k) (omega (arith, S.is k lk, own_none k (eqb k l) refl));
+          most = λ k lk. omega (arith, S.most k lk, begin_ascends s first R F l one_of);
         }
       where
         none : sent N limit 1 own l ≡ 0
-        none = sent-none N limit 1 own l red
+        none = sent_none N limit 1 own l red
 
-        own-none : (k : ℕ) (q : Bool) → eqb k l ≡ q → pick q (100 * sent N limit 1 own k) 0 ≡ 0
-        own-none k true q = let here : k ≡ l = eqb-true _ _ q in rw (here, none) refl
-        own-none k false q = refl
+        own_none : (k : ℕ) (q : Bool) → eqb k l ≡ q → pick q (100 * sent N limit 1 own k) 0 ≡ 0
+        own_none k true q = let here : k ≡ l = eqb-true _ _ q in rw (here, none) refl
+        own_none k false q = refl
 
         pushed_none : (t : ℕ) → from ≤ t → t < end → carried t ≡ 0
         pushed_none t le lt =
-            let here : fromOf s t ≡ l = from-here s first R F l t one_of le lt in
-            let zero-limit : 1 * limit (fromOf s t) ≡ 0 = rw (here, red) refl in
-            let zero-pushed : pushed N limit own other t ≡ 0 = omega (arith, least-base (turnsOf s) (λ u. eqb (fromOf s u) (fromOf s t)) (λ u. pick (eqb u t) (supply N limit 1 own u) (supply N limit 1 other u)) (min (100 * own (fromOf s t)) (100 * (1 * limit (fromOf s t))))) in
+            let here : from_of s t ≡ l = from_here s first R F l t one_of le lt in
+            let zero-limit : 1 * limit (from_of s t) ≡ 0 = rw (here, red) refl in
+            let zero-pushed : pushed N limit own other t ≡ 0 = omega (arith, least_base (turns_of s) (λ u. eqb (from_of s u) (from_of s t)) (λ u. pick (eqb u t) (supply N limit 1 own u) (supply N limit 1 other u)) (min (100 * own (from_of s t)) (100 * (1 * limit (from_of s t))))) in
             rw (zero-pushed, mul-zero) refl
 
-        into-none : (q : Bool) (v : ℕ) → v ≡ 0 → pick q v 0 ≡ 0
-        into-none true v e = e
-        into-none false v e = refl
+        into_none : (q : Bool) (v : ℕ) → v ≡ 0 → pick q v 0 ≡ 0
+        into_none true v e = e
+        into_none false v e = refl
 
-        flat : (k : ℕ) → sum_to end (into (toOf s) carried k) ≡ sum_to from (into (toOf s) carried k)
-        flat k = sum-flat from end _ (begin-ascends s first R F l one_of) (λ t le lt. into-none (eqb (toOf s t) k) _ (pushed_none t le lt))
+        flat : (k : ℕ) → sum_to end (into (to_of s) carried k) ≡ sum_to from (into (to_of s) carried k)
+        flat k = sum_flat from end _ (begin_ascends s first R F l one_of) (λ t le lt. into_none (eqb (to_of s t) k) _ (pushed_none t le lt))
 
     -- a link that sends d and whose turns carry what they carry in the definitions
-    side-on : (f : ℕ → ℕ) (d : ℕ) (before after : List ℕ) → EndsSoFar s limit own other first l before → PassedOn s f from end l (100 * d) before after
+    side_on : (f : ℕ → ℕ) (d : ℕ) (before after : List ℕ) → EndsSoFar s limit own other first l before → PassedOn s f from end l (100 * d) before after
         → d ≡ sent N limit 1 own l → ((t : ℕ) → from ≤ t → t < end → f t ≡ carried t) → EndsSoFar s limit own other first (l + 1) after
-    side-on f d before after S P ed ef =
+    side_on f d before after S P ed ef =
         record {
           long = P.long;
           is = λ k lk. rw (up_to l k) (omega (arith, S.is k lk, P.adds k lk, taken k (eqb k l) refl, alike k));
@@ -115,59 +115,59 @@ module _ {s first : List ℕ} (R : Readable s) (F : FirstTurns s first) (limit o
         taken k true q = let here : k ≡ l = eqb-true _ _ q in rw (here, ed) refl
         taken k false q = refl
 
-        alike : (k : ℕ) → sum_to end (into (toOf s) f k) + sum_to from (into (toOf s) carried k) ≡ sum_to end (into (toOf s) carried k) + sum_to from (into (toOf s) f k)
-        alike k = sum_alike from end _ _ (begin-ascends s first R F l one_of) (λ t le lt. rw (ef t le lt) refl)
+        alike : (k : ℕ) → sum_to end (into (to_of s) f k) + sum_to from (into (to_of s) carried k) ≡ sum_to end (into (to_of s) carried k) + sum_to from (into (to_of s) f k)
+        alike k = sum_alike from end _ _ (begin_ascends s first R F l one_of) (λ t le lt. rw (ef t le lt) refl)
 
     -- near and far have the supplies of its turns at the queues of the two sides, and most is the most that it may send
     module _ {near far : List ℕ} {most : ℕ} (own_is : Supplies s own from end near) (other-is : Supplies s other from end far) (most-is : most ≡ min (100 * own l) (100 * limit l)) where
       -- it sends what it sends where the queues are own
-      sent_is : leastTo end (leb from) (supplyAt s own) most ≡ sent N limit 1 own l
+      sent_is : least_to end (leb from) (supply_at s own) most ≡ sent N limit 1 own l
       unfolding sent
       sent_is =
           rw (most-is, one-mul)
-          (least-same end _ _ _ _ _ (λ u lt. refl) (λ u lt p. supply-is s limit own u)
-          ∙ sym (least-between s first R F l one_of _ _))
+          (least_same end _ _ _ _ _ (λ u lt. refl) (λ u lt p. supply_is s limit own u)
+          ∙ sym (least_between s first R F l one_of _ _))
 
       -- and its turn t is pushed what the definitions say
-      pushed-is : (t : ℕ) → from ≤ t → t < end → sentBy (at near) (at far) from end most t ≡ pushed N limit own other t
-      pushed-is t le lt =
-          rw (from-here s first R F l t one_of le lt, most-is, one-mul)
-          (least-same end (leb from) (leb from) (λ u. pick (eqb u t) (at near u) (at far u)) (λ u. pick (eqb u t) (supply N limit 1 own u) (supply N limit 1 other u)) _ (λ u lu. refl)
-          (λ u lu p. rw (own_is.room u (leb-true _ _ p) lu, other-is.room u (leb-true _ _ p) lu, supply-is s limit own u, supply-is s limit other u) refl)
-          ∙ sym (least-between s first R F l one_of _ _))
+      pushed_is : (t : ℕ) → from ≤ t → t < end → sent_by (at near) (at far) from end most t ≡ pushed N limit own other t
+      pushed_is t le lt =
+          rw (from_here s first R F l t one_of le lt, most-is, one-mul)
+          (least_same end (leb from) (leb from) (λ u. pick (eqb u t) (at near u) (at far u)) (λ u. pick (eqb u t) (supply N limit 1 own u) (supply N limit 1 other u)) _ (λ u lu. refl)
+          (λ u lu p. rw (own_is.room u (leb-true _ _ p) lu, other-is.room u (leb-true _ _ p) lu, supply_is s limit own u, supply_is s limit other u) refl)
+          ∙ sym (least_between s first R F l one_of _ _))
 
     -- so a green link does, by the least of its supplies and its flow
-    pub side-green : {near far before after : List ℕ} {least next flow : ℕ} → EndsSoFar s limit own other first l before
-        → Supplies s own from end near → Supplies s other from end far → TwoLeast (supplyAt s own) from end least next → own l ≤ 10000 → flow ≡ 100 * limit l
-        → PassedOn s (λ t. share_of s t * sentBy (at near) (at far) from end (min (100 * own l) flow) t) from end l (100 * min least (min (100 * own l) flow)) before after
+    pub side_green : {near far before after : List ℕ} {least next flow : ℕ} → EndsSoFar s limit own other first l before
+        → Supplies s own from end near → Supplies s other from end far → TwoLeast (supply_at s own) from end least next → own l ≤ 10000 → flow ≡ 100 * limit l
+        → PassedOn s (λ t. share_of s t * sent_by (at near) (at far) from end (min (100 * own l) flow) t) from end l (100 * min least (min (100 * own l) flow)) before after
         → EndsSoFar s limit own other first (l + 1) after
-    side-green {near} {far} {before} {after} {least} {next} {flow} S own_is other-is T small flow-is P =
+    side_green {near} {far} {before} {after} {least} {next} {flow} S own_is other-is T small flow-is P =
         let most-is : min (100 * own l) flow ≡ min (100 * own l) (100 * limit l) = rw flow-is refl in
-        side-on _ _ before after S P
-        (sent-least (supplyAt s own) from end least _ T.least-is (omega arith) ∙ sent_is own_is other-is most-is)
-        (λ t le lt. rw (pushed-is own_is other-is most-is t le lt) refl)
+        side_on _ _ before after S P
+        (sent_least (supply_at s own) from end least _ T.least_is (omega arith) ∙ sent_is own_is other-is most-is)
+        (λ t le lt. rw (pushed_is own_is other-is most-is t le lt) refl)
 
     -- its own end is still whole when it sends
-    pub side-whole : {side : List ℕ} → EndsSoFar s limit own other first l side → 10000 * own l ≤ at side l
-    side-whole S = let all = rw (le-leb l l (omega arith)) at (S.is l hl) in omega arith
+    pub side_whole : {side : List ℕ} → EndsSoFar s limit own other first l side → 10000 * own l ≤ at side l
+    side_whole S = let all = rw (le-leb l l (omega arith)) at (S.is l hl) in omega arith
 
   -- after all links, the next queue of each link at its corner, before arrivals
-  side-gross : (side : List ℕ) → EndsSoFar s limit own other first (linksOf s) side → (k : ℕ) → k < linksOf s → at side k ≡ gross N limit 1 (lowCorner N k own other) (λ _. 0) k
-  side-gross side S k h =
-      let all = rw (lt-leb (linksOf s) k h, begin-last s first R F) at (S.is k h) in
-      omega (arith, all, sent-queue N limit 1 own k, corner-gross N (joins_of s R) limit own other k h)
+  side_gross : (side : List ℕ) → EndsSoFar s limit own other first (links_of s) side → (k : ℕ) → k < links_of s → at side k ≡ gross N limit 1 (low_corner N k own other) (λ _. 0) k
+  side_gross side S k h =
+      let all = rw (lt-leb (links_of s) k h, begin_last s first R F) at (S.is k h) in
+      omega (arith, all, sent_queue N limit 1 own k, corner_gross N (joins_of s R) limit own other k h)
 
-  pub side-most : (side : List ℕ) → EndsSoFar s limit own other first (linksOf s) side → (k : ℕ) → k < linksOf s → at side k ≤ 10000000000
-  side-most side S k h = omega (arith, S.most k h, begin-last s first R F, R.header)
+  pub side_most : (side : List ℕ) → EndsSoFar s limit own other first (links_of s) side → (k : ℕ) → k < links_of s → at side k ≤ 10000000000
+  side_most side S k h = omega (arith, S.most k h, begin_last s first R F, R.header)
 
 -- the low side and the high side are the ends: the high corner is the low corner with the sides exchanged
-pub both-sides : {s first low high : List ℕ} {limit lower upper : ℕ → ℕ} → Readable s → FirstTurns s first
-    → EndsSoFar s limit lower upper first (linksOf s) low → EndsSoFar s limit upper lower first (linksOf s) high → EndsBefore s limit lower upper low high
-unfolding lowCorner highCorner
-both-sides R F L H =
+pub both_sides : {s first low high : List ℕ} {limit lower upper : ℕ → ℕ} → Readable s → FirstTurns s first
+    → EndsSoFar s limit lower upper first (links_of s) low → EndsSoFar s limit upper lower first (links_of s) high → EndsBefore s limit lower upper low high
+unfolding low_corner high_corner
+both_sides R F L H =
     record {
-      low-is = side-gross R F _ _ _ _ L;
-      high_is = side-gross R F _ _ _ _ H;
-      low-most = side-most R F _ _ _ _ L;
-      high-most = side-most R F _ _ _ _ H;
+      low_is = side_gross R F _ _ _ _ L;
+      high_is = side_gross R F _ _ _ _ H;
+      low_most = side_most R F _ _ _ _ L;
+      high_most = side_most R F _ _ _ _ H;
     }

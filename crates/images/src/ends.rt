@@ -2,10 +2,10 @@
 // `start` is where the records of turns begin, `first` has where each link's turns begin, `limits` the most that each link may send.
 ghost use Rattle.std.specs.Prelude.{◌≡◌, ℕ, ◌+◌, ◌*◌, ◌<◌, ◌≤◌, min, eqb, ltb, length};
 ghost use Rattle.certificate.specs.Loops.{pick};
-ghost use Rattle.certificate.specs.Layout.{maxTurns, maxLinks, linksOf, turnsOf, share_of};
+ghost use Rattle.certificate.specs.Layout.{max_turns, max_links, links_of, turns_of, share_of};
 ghost use Rattle.screening.specs.NetworkParts.{NetworkAt};
-ghost use Rattle.supply.specs.Supply.{at, FirstTurns, WithinCaps, TwoLeast, sentBy};
-ghost use Rattle.images.specs.Ends.{mostQueue, mostPassed, end_bound, LimitsFit, PassedOn, EndsSoFar, EndsBefore};
+ghost use Rattle.supply.specs.Supply.{at, FirstTurns, WithinCaps, TwoLeast, sent_by};
+ghost use Rattle.images.specs.Ends.{most_queue, most_passed, end_bound, LimitsFit, PassedOn, EndsSoFar, EndsBefore};
 
 use certificate::limits;
 use octets::numbers;
@@ -13,8 +13,8 @@ use turn_records::turns;
 
 // Ten thousand times each queue.
 fn scale(links: usize, x: &[usize; limits::MAX_LINKS], ends: &mut [usize; limits::MAX_LINKS])
-    requires { (links ≤ maxLinks) × ((l : ℕ) → l < links → at x.now l ≤ 10000) × (length ends.old ≡ maxLinks) }
-    ensures { (length ends.new ≡ maxLinks) × ((l : ℕ) → l < links → at ends.new l ≡ 10000 * at x.now l) }
+    requires { (links ≤ max_links) × ((l : ℕ) → l < links → at x.now l ≤ 10000) × (length ends.old ≡ max_links) }
+    ensures { (length ends.new ≡ max_links) × ((l : ℕ) → l < links → at ends.new l ≡ 10000 * at x.now l) }
 {
     for l in 0..links {
         ends[l] = 10000 * x[l];
@@ -29,7 +29,7 @@ fn sent_by(
     most: usize,
     t: usize,
 ) -> usize
-    requires { t < maxTurns }
+    requires { t < max_turns }
     ensures { (result ≡ min (min (at near.now t) (pick (eqb (at far.now t) two.least) two.next two.least)) most) × (result ≤ most) }
 {
     numbers::smaller(
@@ -60,8 +60,8 @@ fn pass_on(
     two: supply::Two,
     ends: &mut [usize; limits::MAX_LINKS],
 )
-    requires { NetworkAt s.now start (turnsOf s.now) (linksOf s.now) × (sender.from ≤ sender.end) × (sender.end ≤ turnsOf s.now) × (sender.link < linksOf s.now) × (at x.now sender.link ≤ 10000) × (10000 * at x.now sender.link ≤ at ends.old sender.link) × TwoLeast (at far.now) sender.from sender.end two.least two.next × (linksOf s.now ≤ length ends.old) × ((k : ℕ) → k < linksOf s.now → at ends.old k ≤ mostQueue + sender.from * mostPassed) }
-    ensures { PassedOn s.now (λ t. share_of s.now t * sentBy (at near.now) (at far.now) sender.from sender.end (min (100 * at x.now sender.link) sender.flow) t) sender.from sender.end sender.link (100 * min own.least (min (100 * at x.now sender.link) sender.flow)) ends.old ends.new }
+    requires { NetworkAt s.now start (turns_of s.now) (links_of s.now) × (sender.from ≤ sender.end) × (sender.end ≤ turns_of s.now) × (sender.link < links_of s.now) × (at x.now sender.link ≤ 10000) × (10000 * at x.now sender.link ≤ at ends.old sender.link) × TwoLeast (at far.now) sender.from sender.end two.least two.next × (links_of s.now ≤ length ends.old) × ((k : ℕ) → k < links_of s.now → at ends.old k ≤ most_queue + sender.from * most_passed) }
+    ensures { PassedOn s.now (λ t. share_of s.now t * sent_by (at near.now) (at far.now) sender.from sender.end (min (100 * at x.now sender.link) sender.flow) t) sender.from sender.end sender.link (100 * min own.least (min (100 * at x.now sender.link) sender.flow)) ends.old ends.new }
 {
     let l = sender.link;
     let from = sender.from;
@@ -90,8 +90,8 @@ fn send(
     low: &mut [usize; limits::MAX_LINKS],
     high: &mut [usize; limits::MAX_LINKS],
 )
-    requires { NetworkAt s.now start (turnsOf s.now) (linksOf s.now) × FirstTurns s.now first.now × WithinCaps s.now lower.now × WithinCaps s.now upper.now × (l < linksOf s.now) × LimitsFit s.now limits.now × EndsSoFar s.now (at limits.now) (at lower.now) (at upper.now) first.now l low.old × EndsSoFar s.now (at limits.now) (at upper.now) (at lower.now) first.now l high.old × (length lows.old ≡ maxTurns) × (length highs.old ≡ maxTurns) }
-    ensures { EndsSoFar s.now (at limits.now) (at lower.now) (at upper.now) first.now (l + 1) low.new × EndsSoFar s.now (at limits.now) (at upper.now) (at lower.now) first.now (l + 1) high.new × (length lows.new ≡ maxTurns) × (length highs.new ≡ maxTurns) }
+    requires { NetworkAt s.now start (turns_of s.now) (links_of s.now) × FirstTurns s.now first.now × WithinCaps s.now lower.now × WithinCaps s.now upper.now × (l < links_of s.now) × LimitsFit s.now limits.now × EndsSoFar s.now (at limits.now) (at lower.now) (at upper.now) first.now l low.old × EndsSoFar s.now (at limits.now) (at upper.now) (at lower.now) first.now l high.old × (length lows.old ≡ max_turns) × (length highs.old ≡ max_turns) }
+    ensures { EndsSoFar s.now (at limits.now) (at lower.now) (at upper.now) first.now (l + 1) low.new × EndsSoFar s.now (at limits.now) (at upper.now) (at lower.now) first.now (l + 1) high.new × (length lows.new ≡ max_turns) × (length highs.new ≡ max_turns) }
 {
     let limit = limits[l];
     if limit == 0 {
@@ -125,7 +125,7 @@ pub fn ends_of(
     low: &mut [usize; limits::MAX_LINKS],
     high: &mut [usize; limits::MAX_LINKS],
 )
-    requires { NetworkAt s.now start (turnsOf s.now) links × FirstTurns s.now first.now × WithinCaps s.now lower.now × WithinCaps s.now upper.now × LimitsFit s.now limits.now × (length low.old ≡ maxLinks) × (length high.old ≡ maxLinks) }
+    requires { NetworkAt s.now start (turns_of s.now) links × FirstTurns s.now first.now × WithinCaps s.now lower.now × WithinCaps s.now upper.now × LimitsFit s.now limits.now × (length low.old ≡ max_links) × (length high.old ≡ max_links) }
     ensures { EndsBefore s.now (at limits.now) (at lower.now) (at upper.now) low.new high.new }
 {
     let mut lows = [0usize; limits::MAX_TURNS];

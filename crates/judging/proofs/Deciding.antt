@@ -10,13 +10,13 @@ use native.Mathlib.Omega.{arith}
 abbrev pub Tells : Bool → Type 0 → Type 0
 Tells b A = (b ≡ true) ↔ A
 
-pub tells-false : {A : Type 0} (b : Bool) → Tells b A → (A → ⊥) → b ≡ false
-tells-false true t h = absurd (h (t.0 refl))
-tells-false false t h = refl
+pub tells_false : {A : Type 0} (b : Bool) → Tells b A → (A → ⊥) → b ≡ false
+tells_false true t h = absurd (h (t.0 refl))
+tells_false false t h = refl
 
-pub tells-split : {A : Type 0} (b : Bool) → Tells b A → A ⊎ (A → ⊥)
-tells-split true t = inl (t.0 refl)
-tells-split false t = inr (λ a. false≢true (t.1 a))
+pub tells_split : {A : Type 0} (b : Bool) → Tells b A → A ⊎ (A → ⊥)
+tells_split true t = inl (t.0 refl)
+tells_split false t = inr (λ a. false≢true (t.1 a))
 
 -- the first index below m of which B holds, where A holds of all before it
 pub record First (m : ℕ) (A B : ℕ → Type 0) : Type 0 where
@@ -26,9 +26,9 @@ pub record First (m : ℕ) (A B : ℕ → Type 0) : Type 0 where
   pub bad : B at
 
 -- where each index has A or B: all have A, or there is a first that has B
-pub all-or-first : {A B : ℕ → Type 0} (m : ℕ) → ((i : ℕ) → i < m → A i ⊎ B i) → ((i : ℕ) → i < m → A i) ⊎ First m A B
-all-or-first {A} {B} zero h = inl (λ i lt. absurd (omega arith))
-all-or-first {A} {B} (suc m) h = go (all-or-first m (λ i lt. h i (omega arith)))
+pub all_or_first : {A B : ℕ → Type 0} (m : ℕ) → ((i : ℕ) → i < m → A i ⊎ B i) → ((i : ℕ) → i < m → A i) ⊎ First m A B
+all_or_first {A} {B} zero h = inl (λ i lt. absurd (omega arith))
+all_or_first {A} {B} (suc m) h = go (all_or_first m (λ i lt. h i (omega arith)))
   where
     last : ((i : ℕ) → i < m → A i) → A m ⊎ B m → ((i : ℕ) → i < suc m → A i) ⊎ First (suc m) A B
     last all (inl a) = inl (λ i lt. ⊎_elim (λ (q : i ≡ m). rw q a) (λ l. all i l) (eq-or-lt_of_le (let h : i ≤ m = omega arith in h)))

@@ -1,8 +1,8 @@
 // Lists a certificate: standard input to standard output. Bytes past the greatest length of a certificate and one more change no
 // listing (listing_text `ListingOfLong`), so no more are read.
 ghost use Rattle.std.specs.Prelude.{◌≡◌, ◌≤◌, length, take};
-ghost use Rattle.listing_text.specs.Listing.{listingOf};
-ghost use Rattle.listing_text.specs.Laws.{maxListing};
+ghost use Rattle.listing_text.specs.Listing.{listing_of};
+ghost use Rattle.listing_text.specs.Laws.{max_listing};
 
 use certificate::limits;
 use libc::{STDIN_FILENO, STDOUT_FILENO};
@@ -10,8 +10,8 @@ use libc::{STDIN_FILENO, STDOUT_FILENO};
 // Lists the first n bytes of the input: the text, which has room for every listing, then begins with the whole of it, and the answer
 // is how long that is.
 fn listed(bytes: &[u8], n: usize, text: &mut [u8]) -> usize
-    requires { (n ≤ length bytes.now) × (maxListing ≤ length text.old) }
-    ensures { (result ≤ length text.new) × (take result text.new ≡ listingOf (take n bytes.now)) }
+    requires { (n ≤ length bytes.now) × (max_listing ≤ length text.old) }
+    ensures { (result ≤ length text.new) × (take result text.new ≡ listing_of (take n bytes.now)) }
 {
     let report = listing::list(&bytes[0..n], text);
     report.a as usize

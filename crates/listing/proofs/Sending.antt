@@ -6,21 +6,21 @@ use native.Mathlib.Nat.{zero-add}
 use borrow.Author.Tests.{le-leb, lt-leb}
 use lib.ListN.{length}
 use Rattle.certificate.specs.declared.Report.{Report}
-use Rattle.certificate.specs.Checks.{result, refusal, need}
-use Rattle.judging.specs.Verdict.{verdictOf}
-use Rattle.judging.specs.Overflow.{overflowsOf}
+use Rattle.certificate.specs.Checks.{report_with, refusal, need}
+use Rattle.judging.specs.Verdict.{verdict_of}
+use Rattle.judging.specs.Overflow.{overflows_of}
 use Rattle.text.specs.TextPut.{written, Put}
-use Rattle.listing_text.specs.Listing.{text_of, listingOf, sendReport, sendBuffer, Sent}
+use Rattle.listing_text.specs.Listing.{text_of, listing_of, send_report, send_buffer, Sent}
 
 module _ {text buffer : List ℕ} {answer : Report} where
   -- a text longer than the buffer: 17, and the buffer as it was
   pub refuses : length buffer < length text → answer ≡ refusal 17 0 → Sent text buffer buffer answer
-  unfolding sendReport sendBuffer need
+  unfolding send_report send_buffer need
   refuses short e = record { report = rw (lt-leb (length text) (length buffer) short) e; bytes = rw (lt-leb (length text) (length buffer) short) }
 
-  pub sends : {after : List ℕ} {next : ℕ} → length text ≤ length buffer → Put buffer 0 text after next → answer ≡ result 0 (length text) 0 0
+  pub sends : {after : List ℕ} {next : ℕ} → length text ≤ length buffer → Put buffer 0 text after next → answer ≡ report_with 0 (length text) 0 0
       → Sent text buffer after answer
-  unfolding sendReport sendBuffer need written
+  unfolding send_report send_buffer need written
   sends fits w e =
       record {
         report = rw (le-leb (length text) (length buffer) fits) e;
@@ -28,7 +28,7 @@ module _ {text buffer : List ℕ} {answer : Report} where
       }
 
 -- what is sent under the verdict is the listing
-pub listed : (s : List ℕ) {buffer after : List ℕ} {r answer : Report} {n : ℕ} → r ≡ verdictOf s → n ≡ overflowsOf s
-    → Sent (text_of s r n) buffer after answer → Sent (listingOf s) buffer after answer
-unfolding listingOf
+pub listed : (s : List ℕ) {buffer after : List ℕ} {r answer : Report} {n : ℕ} → r ≡ verdict_of s → n ≡ overflows_of s
+    → Sent (text_of s r n) buffer after answer → Sent (listing_of s) buffer after answer
+unfolding listing_of
 listed s e o h = rw (e, o) at h

@@ -2,9 +2,9 @@
 ghost use Rattle.std.specs.Prelude.{◌≡◌, ◌≤◌, length};
 ghost use Rattle.text.specs.TextPut.{Room, Put};
 ghost use Rattle.listing.specs.Entries.{EntriesAt};
-ghost use Rattle.listing_text.specs.Lines.{refusedLine};
-ghost use Rattle.listing_text.specs.Listing.{acceptedText, Sent};
-ghost use Rattle.octets.specs.Bounds.{offsetBound};
+ghost use Rattle.listing_text.specs.Lines.{refused_line};
+ghost use Rattle.listing_text.specs.Listing.{accepted_text, Sent};
+ghost use Rattle.octets.specs.Bounds.{offset_bound};
 
 use certificate::Report;
 use listing_lines::{lengths, lines};
@@ -12,7 +12,7 @@ use listing_lines::{lengths, lines};
 // The text of an accepted certificate: how long it is.
 fn text_length(s: &[u8], start: usize, report: Report, overflows: u32) -> usize
     requires { EntriesAt s.now start }
-    ensures { (result ≡ length (acceptedText s.now report overflows)) × (result ≤ offsetBound) }
+    ensures { (result ≡ length (accepted_text s.now report overflows)) × (result ≤ offset_bound) }
 {
     lengths::counts_length(s)
         + lengths::entries_length(s, start, header_record::entries_of(s))
@@ -21,8 +21,8 @@ fn text_length(s: &[u8], start: usize, report: Report, overflows: u32) -> usize
 
 // The text of an accepted certificate, in the front of the buffer.
 fn put_text(buffer: &mut [u8], s: &[u8], start: usize, report: Report, overflows: u32) -> usize
-    requires { EntriesAt s.now start × Room buffer.old 0 (acceptedText s.now report overflows) }
-    ensures { Put buffer.old 0 (acceptedText s.now report overflows) buffer.new result }
+    requires { EntriesAt s.now start × Room buffer.old 0 (accepted_text s.now report overflows) }
+    ensures { Put buffer.old 0 (accepted_text s.now report overflows) buffer.new result }
 {
     let first = lines::put_counts(buffer, 0, s);
     let last = lines::put_entries(buffer, first, s, start, header_record::entries_of(s));
@@ -38,7 +38,7 @@ pub fn render_accepted(
     buffer: &mut [u8],
 ) -> Report
     requires { EntriesAt s.now start }
-    ensures { Sent (acceptedText s.now report overflows) buffer.old buffer.new result }
+    ensures { Sent (accepted_text s.now report overflows) buffer.old buffer.new result }
 {
     let size = text_length(s, start, report, overflows);
     if buffer.len() < size {
@@ -50,7 +50,7 @@ pub fn render_accepted(
 
 // The listing of a refused certificate.
 pub fn render_refused(report: Report, buffer: &mut [u8]) -> Report
-    ensures { Sent (refusedLine report) buffer.old buffer.new result }
+    ensures { Sent (refused_line report) buffer.old buffer.new result }
 {
     let size = lengths::refused_length(report);
     if buffer.len() < size {

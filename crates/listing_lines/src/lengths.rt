@@ -1,9 +1,9 @@
 // How long each part of the text is, so that a buffer's size is tested before anything is written.
 ghost use Rattle.std.specs.Prelude.{◌≡◌, ◌+◌, ◌*◌, ◌<◌, ◌≤◌, ◌++◌, length};
-ghost use Rattle.certificate.specs.Layout.{maxEntries, entriesStart};
+ghost use Rattle.certificate.specs.Layout.{max_entries, entries_start};
 ghost use Rattle.listing_text.specs.Text.{decimal};
-ghost use Rattle.listing_text.specs.Lines.{countsLine, entryLine, entryLines, acceptedLine, refusedLine};
-ghost use Rattle.text.specs.NumberLines.{numbersLine};
+ghost use Rattle.listing_text.specs.Lines.{counts_line, entry_line, entry_lines, accepted_line, refused_line};
+ghost use Rattle.text.specs.NumberLines.{numbers_line};
 ghost use Rattle.octets.specs.Bounds.{start_bound};
 
 use crate::fields;
@@ -26,7 +26,7 @@ fn count_length(word: &[u8], n: usize) -> usize
 }
 
 pub fn counts_length(s: &[u8]) -> usize
-    ensures { (result ≡ length (countsLine s.now)) × (result ≤ 126) }
+    ensures { (result ≡ length (counts_line s.now)) × (result ≤ 126) }
 {
     count_length(b"links ", header_record::links_of(s))
         + count_length(b"turns ", header_record::turns_of(s))
@@ -37,8 +37,8 @@ pub fn counts_length(s: &[u8]) -> usize
 }
 
 fn entry_length(s: &[u8], start: usize, e: usize) -> usize
-    requires { (e ≤ maxEntries) × (start ≤ start_bound) × (start ≡ entriesStart s.now) }
-    ensures { (result ≡ length (entryLine s.now e)) × (result ≤ 55) }
+    requires { (e ≤ max_entries) × (start ≤ start_bound) × (start ≡ entries_start s.now) }
+    ensures { (result ≡ length (entry_line s.now e)) × (result ≤ 55) }
 {
     let numbers = fields::entry_numbers(s, start, e);
     text::numbers_length(&numbers)
@@ -46,8 +46,8 @@ fn entry_length(s: &[u8], start: usize, e: usize) -> usize
 
 // The lines of the entries before n.
 pub fn entries_length(s: &[u8], start: usize, n: usize) -> usize
-    requires { (n ≤ maxEntries) × (start ≤ start_bound) × (start ≡ entriesStart s.now) }
-    ensures { (result ≡ length (entryLines s.now n)) × (result ≤ 55 * n) }
+    requires { (n ≤ max_entries) × (start ≤ start_bound) × (start ≡ entries_start s.now) }
+    ensures { (result ≡ length (entry_lines s.now n)) × (result ≤ 55 * n) }
 {
     let mut total = 0;
     let mut e = 0;
@@ -61,20 +61,20 @@ pub fn entries_length(s: &[u8], start: usize, n: usize) -> usize
 // A word with the space after it, and a line of numbers.
 fn line_length(word: &[u8], numbers: &[u32]) -> usize
     requires { (length word.now ≤ 10) × (length numbers.now ≤ 5) }
-    ensures { (result ≡ length (word.now ++ numbersLine numbers.now)) × (result ≤ 65) }
+    ensures { (result ≡ length (word.now ++ numbers_line numbers.now)) × (result ≤ 65) }
 {
     word.len() + text::numbers_length(numbers)
 }
 
 pub fn accepted_length(report: Report, overflows: u32) -> usize
-    ensures { (result ≡ length (acceptedLine report overflows)) × (result ≤ 65) }
+    ensures { (result ≡ length (accepted_line report overflows)) × (result ≤ 65) }
 {
     let numbers = [report.count, overflows];
     line_length(b"accepted ", &numbers)
 }
 
 pub fn refused_length(report: Report) -> usize
-    ensures { (result ≡ length (refusedLine report)) × (result ≤ 65) }
+    ensures { (result ≡ length (refused_line report)) × (result ≤ 65) }
 {
     let numbers = [report.number as u32, report.a, report.b, report.count];
     line_length(b"refused ", &numbers)

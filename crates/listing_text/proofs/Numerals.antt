@@ -26,34 +26,34 @@ read_one : (d : ℕ) → read_on 0 (d ∷ []) ≡ d - 0x30
 unfolding read_on
 read_one d = omega arith
 
-one-digit : (n : ℕ) → n < 10 → Numeral n ((48 + n) ∷ [])
-one-digit n h =
+one_digit : (n : ℕ) → n < 10 → Numeral n ((48 + n) ∷ [])
+one_digit n h =
     record {
       value = rw read_one (omega arith);
       some = omega arith;
       ascii = ascii;
-      no-leading-zero = λ z. rw z;
+      no_leading_zero = λ z. rw z;
     }
   where
     ascii : (i : ℕ) → i < 1 → (0x30 ≤ get_or ((48 + n) ∷ []) i 0) × (get_or ((48 + n) ∷ []) i 0 ≤ 0x39)
     ascii zero lt = (omega arith, omega arith)
     ascii (suc i) lt = absurd (omega arith)
 
-more-digits : (n : ℕ) (ds : List ℕ) → 10 ≤ n → Numeral (n / 10) ds → Numeral n (ds ++ ((48 + n % 10) ∷ []))
-more-digits n ds h tenths =
+more_digits : (n : ℕ) (ds : List ℕ) → 10 ≤ n → Numeral (n / 10) ds → Numeral n (ds ++ ((48 + n % 10) ∷ []))
+more_digits n ds h tenths =
     record {
       value = rw (read_more, tenths.value) (omega arith);
       some = rw length-append (omega arith);
       ascii = λ i lt. ascii i (ltb i (length ds)) refl (rw length-append at lt);
-      no-leading-zero = λ z. absurd (begins-zero (rw first at z));
+      no_leading_zero = λ z. absurd (begins_zero (rw first at z));
     }
   where
     first : get_or (ds ++ ((48 + n % 10) ∷ [])) 0 0 ≡ get_or ds 0 0
     first = get_or-append ds _ 0 0 tenths.some
 
-    begins-zero : get_or ds 0 0 ≡ 0x30 → ⊥
-    begins-zero z =
-        let none : n / 10 ≡ 0 = sym tenths.value ∙ ap (read_on 0) (tenths.no-leading-zero z) ∙ read_one 0x30 in
+    begins_zero : get_or ds 0 0 ≡ 0x30 → ⊥
+    begins_zero z =
+        let none : n / 10 ≡ 0 = sym tenths.value ∙ ap (read_on 0) (tenths.no_leading_zero z) ∙ read_one 0x30 in
         omega arith
 
     ascii : (i : ℕ) (t : Bool) → ltb i (length ds) ≡ t → i < length ds + 1
@@ -65,12 +65,12 @@ more-digits n ds h tenths =
 
 numerals : (k n : ℕ) → n < 10 ^ suc k → Numeral n (digits (suc k) n)
 unfolding digits
-numerals zero n h = rw (lt-ltb n 10 (omega arith)) (one-digit n (omega arith))
+numerals zero n h = rw (lt-ltb n 10 (omega arith)) (one_digit n (omega arith))
 numerals (suc k) n h = go (ltb n 10) refl (numerals k (n / 10) (tenth (suc k) n h))
   where
     go : (t : Bool) → ltb n 10 ≡ t → Numeral (n / 10) (digits (suc k) (n / 10)) → Numeral n (digits (suc (suc k)) n)
-    go true e tenths = rw e (one-digit n (ltb-true n 10 e))
-    go false e tenths = rw e (more-digits n (digits (suc k) (n / 10)) (ltb-false n 10 e) tenths)
+    go true e tenths = rw e (one_digit n (ltb-true n 10 e))
+    go false e tenths = rw e (more_digits n (digits (suc k) (n / 10)) (ltb-false n 10 e) tenths)
 
 pub decimal_is_numeral : DecimalIsNumeral
 decimal_is_numeral n h = numerals 9 n h

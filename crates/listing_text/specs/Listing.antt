@@ -3,40 +3,40 @@
 -- The call that lists: its answer, and the lent buffer afterwards.
 use Rattle.std.specs.Prelude.{ℕ, List, ◌++◌, cond, ◌≡◌, length, drop, leb, eqb}
 use Rattle.certificate.specs.declared.Report.{Report}
-use Rattle.certificate.specs.Checks.{result, refusal, need}
-use Rattle.certificate.specs.Layout.{entriesOf}
-use Rattle.judging.specs.Verdict.{verdictOf}
-use Rattle.judging.specs.Overflow.{overflowsOf}
-use Rattle.listing_text.specs.Lines.{countsLine, entryLines, acceptedLine, refusedLine}
+use Rattle.certificate.specs.Checks.{report_with, refusal, need}
+use Rattle.certificate.specs.Layout.{entries_of}
+use Rattle.judging.specs.Verdict.{verdict_of}
+use Rattle.judging.specs.Overflow.{overflows_of}
+use Rattle.listing_text.specs.Lines.{counts_line, entry_lines, accepted_line, refused_line}
 
 -- the text of an accepted certificate, n of whose entries may turn arrivals away
-unfoldable pub acceptedText : List ℕ → Report → ℕ → List ℕ
-acceptedText s r n = countsLine s ++ (entryLines s (entriesOf s) ++ acceptedLine r n)
+unfoldable pub accepted_text : List ℕ → Report → ℕ → List ℕ
+accepted_text s r n = counts_line s ++ (entry_lines s (entries_of s) ++ accepted_line r n)
 
 -- the whole text under a given report and number
 unfoldable pub text_of : List ℕ → Report → ℕ → List ℕ
-text_of s r n = cond (eqb r.number 0) (acceptedText s r n) (refusedLine r)
+text_of s r n = cond (eqb r.number 0) (accepted_text s r n) (refused_line r)
 
 -- the whole text
-unfoldable pub listingOf : List ℕ → List ℕ
-listingOf s = text_of s (verdictOf s) (overflowsOf s)
+unfoldable pub listing_of : List ℕ → List ℕ
+listing_of s = text_of s (verdict_of s) (overflows_of s)
 
 -- a text that goes to the front of a lent buffer: A is its length, and 17 where it is longer than the buffer
-unfoldable pub sendReport : List ℕ → List ℕ → Report
-sendReport text buffer = need (leb (length text) (length buffer)) (refusal 17 0) (result 0 (length text) 0 0)
+unfoldable pub send_report : List ℕ → List ℕ → Report
+send_report text buffer = need (leb (length text) (length buffer)) (refusal 17 0) (report_with 0 (length text) 0 0)
 
 -- the buffer afterwards: every byte past the text as it was; a refusal leaves it as it was
-unfoldable pub sendBuffer : List ℕ → List ℕ → List ℕ
-sendBuffer text buffer = cond (leb (length text) (length buffer)) (text ++ drop (length text) buffer) buffer
+unfoldable pub send_buffer : List ℕ → List ℕ → List ℕ
+send_buffer text buffer = cond (leb (length text) (length buffer)) (text ++ drop (length text) buffer) buffer
 
 -- what a call that sends a text answers, and how it leaves the buffer
 pub record Sent (text buffer after : List ℕ) (answer : Report) : Type 0 where
-  pub report : answer ≡ sendReport text buffer
-  pub bytes : after ≡ sendBuffer text buffer
+  pub report : answer ≡ send_report text buffer
+  pub bytes : after ≡ send_buffer text buffer
 
 -- the call that lists s
-abbrev pub listReport : List ℕ → List ℕ → Report
-listReport s buffer = sendReport (listingOf s) buffer
+abbrev pub list_report : List ℕ → List ℕ → Report
+list_report s buffer = send_report (listing_of s) buffer
 
-abbrev pub listBuffer : List ℕ → List ℕ → List ℕ
-listBuffer s buffer = sendBuffer (listingOf s) buffer
+abbrev pub list_buffer : List ℕ → List ℕ → List ℕ
+list_buffer s buffer = send_buffer (listing_of s) buffer

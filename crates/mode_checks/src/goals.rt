@@ -1,7 +1,7 @@
 // The tests of the goals of an H3 certificate's mode.
 ghost use Rattle.std.specs.Prelude.{true, ◌||◌, not, ◌≡◌, ◌<◌, eqb};
-ghost use Rattle.certificate.specs.Layout.{takesTurns, goalNumberOf};
-ghost use Rattle.certificate.specs.Records.{goalsSafe, sameGoals, goalsAgree, isUsed, noGap, goalsOk};
+ghost use Rattle.certificate.specs.Layout.{takes_turns, goal_number_of};
+ghost use Rattle.certificate.specs.Records.{goals_safe, same_goals, goals_agree, is_used, no_gap, goals_ok};
 ghost use Rattle.mode_records.specs.Placed.{Placed};
 
 use certificate::limits;
@@ -10,8 +10,8 @@ use road_records::links;
 
 // The goals of mode m are at most safe.
 fn goals_safe(s: &[u8], place: modes::Place, m: usize) -> bool
-    requires { (m < 256) × Placed s.now place × (takesTurns s.now ≡ true) }
-    ensures { result ≡ goalsSafe s.now m }
+    requires { (m < 256) × Placed s.now place × (takes_turns s.now ≡ true) }
+    ensures { result ≡ goals_safe s.now m }
 {
     let links = header_record::links_of(s);
     for l in 0..links {
@@ -24,8 +24,8 @@ fn goals_safe(s: &[u8], place: modes::Place, m: usize) -> bool
 
 // Modes k and m have equal goals.
 fn same_goals(s: &[u8], place: modes::Place, k: usize, m: usize) -> bool
-    requires { (k < 256) × (m < 256) × Placed s.now place × (takesTurns s.now ≡ true) }
-    ensures { result ≡ sameGoals s.now k m }
+    requires { (k < 256) × (m < 256) × Placed s.now place × (takes_turns s.now ≡ true) }
+    ensures { result ≡ same_goals s.now k m }
 {
     let links = header_record::links_of(s);
     for l in 0..links {
@@ -38,8 +38,8 @@ fn same_goals(s: &[u8], place: modes::Place, k: usize, m: usize) -> bool
 
 // Mode m has the goals of mode k, if it has its goal number.
 fn agrees_with(s: &[u8], place: modes::Place, k: usize, m: usize) -> bool
-    requires { (k < 256) × (m < 256) × Placed s.now place × (takesTurns s.now ≡ true) }
-    ensures { result ≡ (not (eqb (goalNumberOf s.now k) (goalNumberOf s.now m)) || sameGoals s.now k m) }
+    requires { (k < 256) × (m < 256) × Placed s.now place × (takes_turns s.now ≡ true) }
+    ensures { result ≡ (not (eqb (goal_number_of s.now k) (goal_number_of s.now m)) || same_goals s.now k m) }
 {
     (goals::goal_number(s, place, k) != goals::goal_number(s, place, m))
         | same_goals(s, place, k, m)
@@ -47,8 +47,8 @@ fn agrees_with(s: &[u8], place: modes::Place, k: usize, m: usize) -> bool
 
 // Mode m agrees with every mode before it.
 fn goals_agree(s: &[u8], place: modes::Place, m: usize) -> bool
-    requires { (m < 256) × Placed s.now place × (takesTurns s.now ≡ true) }
-    ensures { result ≡ goalsAgree s.now m }
+    requires { (m < 256) × Placed s.now place × (takes_turns s.now ≡ true) }
+    ensures { result ≡ goals_agree s.now m }
 {
     for k in 0..m {
         if !agrees_with(s, place, k, m) {
@@ -60,8 +60,8 @@ fn goals_agree(s: &[u8], place: modes::Place, m: usize) -> bool
 
 // Some mode has goal number n.
 fn is_used(s: &[u8], place: modes::Place, n: usize) -> bool
-    requires { Placed s.now place × (takesTurns s.now ≡ true) }
-    ensures { result ≡ isUsed s.now n }
+    requires { Placed s.now place × (takes_turns s.now ≡ true) }
+    ensures { result ≡ is_used s.now n }
 {
     let modes = header_record::modes_of(s);
     let mut used = false;
@@ -73,8 +73,8 @@ fn is_used(s: &[u8], place: modes::Place, n: usize) -> bool
 
 // Every number below the greatest is used.
 fn no_gap(s: &[u8], place: modes::Place) -> bool
-    requires { Placed s.now place × (takesTurns s.now ≡ true) }
-    ensures { result ≡ noGap s.now }
+    requires { Placed s.now place × (takes_turns s.now ≡ true) }
+    ensures { result ≡ no_gap s.now }
 {
     let greatest = goals::greatest_of(s, place);
     for n in 0..greatest {
@@ -87,8 +87,8 @@ fn no_gap(s: &[u8], place: modes::Place) -> bool
 
 // The tests of the goals of mode m; the last mode answers for a gap.
 pub fn goals_ok(s: &[u8], place: modes::Place, m: usize) -> bool
-    requires { (m < 256) × Placed s.now place × (takesTurns s.now ≡ true) }
-    ensures { result ≡ goalsOk s.now m }
+    requires { (m < 256) × Placed s.now place × (takes_turns s.now ≡ true) }
+    ensures { result ≡ goals_ok s.now m }
 {
     (goals::goal_number(s, place, m) <= limits::MAX_GOAL_NUMBER)
         & goals_safe(s, place, m)

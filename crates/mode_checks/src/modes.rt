@@ -1,8 +1,8 @@
 // MD: its tests (refusal 6).
 ghost use Rattle.std.specs.Prelude.{true, ◌≡◌, ◌<◌, ◌≤◌};
-ghost use Rattle.certificate.specs.Layout.{remembers, modesStart};
-ghost use Rattle.certificate.specs.Records.{modeOk, modeFault};
-ghost use Rattle.certificate.specs.Reading.{modesFault};
+ghost use Rattle.certificate.specs.Layout.{remembers, modes_start};
+ghost use Rattle.certificate.specs.Records.{mode_ok, mode_fault};
+ghost use Rattle.certificate.specs.Reading.{modes_fault};
 ghost use Rattle.mode_records.specs.Placed.{Placed};
 ghost use Rattle.octets.specs.Bounds.{start_bound};
 
@@ -13,7 +13,7 @@ use mode_records::modes;
 // The signal exists, and in H3 the goals are as they must be.
 fn mode_ok(s: &[u8], place: modes::Place, m: usize) -> bool
     requires { (m < 256) × Placed s.now place × (remembers s.now ≡ true) }
-    ensures { result ≡ modeOk s.now m }
+    ensures { result ≡ mode_ok s.now m }
 {
     if modes::shown_before(s, place, m) >= header_record::signals_of(s) {
         return false;
@@ -26,7 +26,7 @@ fn mode_ok(s: &[u8], place: modes::Place, m: usize) -> bool
 
 fn check_mode(s: &[u8], place: modes::Place, m: usize) -> Report
     requires { (m < 256) × Placed s.now place × (remembers s.now ≡ true) }
-    ensures { result ≡ modeFault s.now m }
+    ensures { result ≡ mode_fault s.now m }
 {
     let o = modes::mode_at(place, m);
     let opening = octets::check_opened(s, o, octets::marked_as(s, o, 77, 68), place.size);
@@ -34,8 +34,8 @@ fn check_mode(s: &[u8], place: modes::Place, m: usize) -> Report
 }
 
 pub fn check_modes(s: &[u8], start: usize) -> Report
-    requires { (start ≤ start_bound) × (start ≡ modesStart s.now) }
-    ensures { result ≡ modesFault s.now }
+    requires { (start ≤ start_bound) × (start ≡ modes_start s.now) }
+    ensures { result ≡ modes_fault s.now }
 {
     if !header_record::has_memory(s) {
         return octets::accept();

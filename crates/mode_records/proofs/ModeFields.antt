@@ -4,43 +4,43 @@ use mathlib.Core.Bool.{true, false}
 use mathlib.Core.List.{List}
 use mathlib.Core.Path.{◌≡◌, refl, sym, ◌∙◌}
 use native.Mathlib.Numerals.{add-one}
-use Rattle.certificate.specs.Loops.{greatestTo}
-use Rattle.certificate.specs.Octets.{byte_at, u16At}
-use Rattle.certificate.specs.Layout.{modesOf, remembers, takesTurns, modeAt, shownBefore, goalNumberOf, goalFor, greatestGoal}
-use Rattle.certificate.proofs.KindLaws.{one-goal-layout, none-greater}
+use Rattle.certificate.specs.Loops.{greatest_to}
+use Rattle.certificate.specs.Octets.{byte_at, u16_at}
+use Rattle.certificate.specs.Layout.{modes_of, remembers, takes_turns, mode_at, shown_before, goal_number_of, goal_for, greatest_goal}
+use Rattle.certificate.proofs.KindLaws.{one_goal_layout, none_greater}
 use Rattle.mode_records.specs.declared.modes.Place.{Place}
 use Rattle.mode_records.specs.Placed.{Placed}
 
 module _ (s : List ℕ) {place : Place} (P : Placed s place) (m : ℕ) {o : ℕ} (here : o ≡ place.start + place.size * m) where
-  pub mode-here : o ≡ modeAt s m
-  mode-here = here ∙ rw (P.start_is, P.size_is)
+  pub mode_here : o ≡ mode_at s m
+  mode_here = here ∙ rw (P.start_is, P.size_is)
 
-  pub shown-here : {r : ℕ} → remembers s ≡ true → r ≡ byte_at s (o + 2) → r ≡ shownBefore s m
-  unfolding shownBefore
-  shown-here e h = h ∙ rw (e, mode-here)
+  pub shown_here : {r : ℕ} → remembers s ≡ true → r ≡ byte_at s (o + 2) → r ≡ shown_before s m
+  unfolding shown_before
+  shown_here e h = h ∙ rw (e, mode_here)
 
-  pub number-here : {r : ℕ} → takesTurns s ≡ true → r ≡ byte_at s (o + 3) → r ≡ goalNumberOf s m
-  unfolding goalNumberOf
-  number-here e h = h ∙ rw (e, mode-here)
+  pub number_here : {r : ℕ} → takes_turns s ≡ true → r ≡ byte_at s (o + 3) → r ≡ goal_number_of s m
+  unfolding goal_number_of
+  number_here e h = h ∙ rw (e, mode_here)
 
-  pub goal-here : (l : ℕ) {r : ℕ} → takesTurns s ≡ true → r ≡ u16At s (o + (4 + 2 * l)) → r ≡ goalFor s m l
-  unfolding goalFor
-  goal-here l e h = h ∙ rw (e, mode-here)
+  pub goal_here : (l : ℕ) {r : ℕ} → takes_turns s ≡ true → r ≡ u16_at s (o + (4 + 2 * l)) → r ≡ goal_for s m l
+  unfolding goal_for
+  goal_here l e h = h ∙ rw (e, mode_here)
 
 -- the greatest so far, with one number more
-pub greatest-none : (f : ℕ → ℕ) → 0 ≡ greatestTo 0 f
-unfolding greatestTo
-greatest-none f = refl
+pub greatest_none : (f : ℕ → ℕ) → 0 ≡ greatest_to 0 f
+unfolding greatest_to
+greatest_none f = refl
 
-pub greatest-more : (f : ℕ → ℕ) (m : ℕ) {g n r : ℕ} → g ≡ greatestTo m f → n ≡ f m → r ≡ max g n → r ≡ greatestTo (m + 1) f
-unfolding greatestTo
-greatest-more f m p q e = e ∙ rw (add-one, p, q)
+pub greatest_more : (f : ℕ → ℕ) (m : ℕ) {g n r : ℕ} → g ≡ greatest_to m f → n ≡ f m → r ≡ max g n → r ≡ greatest_to (m + 1) f
+unfolding greatest_to
+greatest_more f m p q e = e ∙ rw (add-one, p, q)
 
 -- where there is one goal, its number is the greatest
-pub one-greatest : (s : List ℕ) → takesTurns s ≡ false → 0 ≡ greatestGoal s
-unfolding greatestGoal
-one-greatest s one = sym (none-greater (modesOf s) (goalNumberOf s) (one-goal-layout s one).number)
+pub one_greatest : (s : List ℕ) → takes_turns s ≡ false → 0 ≡ greatest_goal s
+unfolding greatest_goal
+one_greatest s one = sym (none_greater (modes_of s) (goal_number_of s) (one_goal_layout s one).number)
 
-pub greatest-all : (s : List ℕ) (m : ℕ) {g : ℕ} → g ≡ greatestTo m (goalNumberOf s) → m ≡ modesOf s → g ≡ greatestGoal s
-unfolding greatestGoal
-greatest-all s m p all = p ∙ rw all
+pub greatest_all : (s : List ℕ) (m : ℕ) {g : ℕ} → g ≡ greatest_to m (goal_number_of s) → m ≡ modes_of s → g ≡ greatest_goal s
+unfolding greatest_goal
+greatest_all s m p all = p ∙ rw all

@@ -1,30 +1,30 @@
 // The goals of the modes of an H3 certificate: the fields of MD behind the signal.
 ghost use Rattle.std.specs.Prelude.{true, ◌≡◌, ◌<◌};
-ghost use Rattle.certificate.specs.Layout.{takesTurns, goalNumberOf, goalFor, greatestGoal};
+ghost use Rattle.certificate.specs.Layout.{takes_turns, goal_number_of, goal_for, greatest_goal};
 ghost use Rattle.mode_records.specs.Placed.{Placed};
 
 use crate::modes;
 use octets::numbers;
 
 pub fn goal_number(s: &[u8], place: modes::Place, m: usize) -> usize
-    requires { (m < 256) × Placed s.now place × (takesTurns s.now ≡ true) }
-    ensures { (result ≡ goalNumberOf s.now m) × (result < 256) }
+    requires { (m < 256) × Placed s.now place × (takes_turns s.now ≡ true) }
+    ensures { (result ≡ goal_number_of s.now m) × (result < 256) }
 {
     octets::byte_at(s, modes::mode_at(place, m) + 3)
 }
 
 // The goal of mode m on link l.
 pub fn goal_for(s: &[u8], place: modes::Place, m: usize, l: usize) -> usize
-    requires { (m < 256) × (l < 256) × Placed s.now place × (takesTurns s.now ≡ true) }
-    ensures { (result ≡ goalFor s.now m l) × (result < 65536) }
+    requires { (m < 256) × (l < 256) × Placed s.now place × (takes_turns s.now ≡ true) }
+    ensures { (result ≡ goal_for s.now m l) × (result < 65536) }
 {
     octets::u16_at(s, modes::mode_at(place, m) + (4 + 2 * l))
 }
 
 // The greatest goal number used.
 pub fn greatest_of(s: &[u8], place: modes::Place) -> usize
-    requires { Placed s.now place × (takesTurns s.now ≡ true) }
-    ensures { (result ≡ greatestGoal s.now) × (result < 256) }
+    requires { Placed s.now place × (takes_turns s.now ≡ true) }
+    ensures { (result ≡ greatest_goal s.now) × (result < 256) }
 {
     let modes = header_record::modes_of(s);
     let mut greatest = 0;
@@ -37,7 +37,7 @@ pub fn greatest_of(s: &[u8], place: modes::Place) -> usize
 // The same of any certificate: 0 in HD and H2.
 pub fn greatest_goal(s: &[u8], place: modes::Place) -> usize
     requires { Placed s.now place }
-    ensures { (result ≡ greatestGoal s.now) × (result < 256) }
+    ensures { (result ≡ greatest_goal s.now) × (result < 256) }
 {
     if header_record::takes_turns(s) {
         return greatest_of(s, place);

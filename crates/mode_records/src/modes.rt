@@ -1,7 +1,7 @@
 // MD: one record a mode of an H2 or H3 certificate, the signal shown before and in H3 its goals; HD has none.
 ghost use Rattle.std.specs.Prelude.{true, ◌≡◌, ◌+◌, ◌*◌, ◌<◌, ◌≤◌};
-ghost use Rattle.certificate.specs.Layout.{remembers, modesOf, modeRecordsOf, modesStart, modeSize, shownBefore};
-ghost use Rattle.mode_records.specs.Placed.{Placed, sizeBound};
+ghost use Rattle.certificate.specs.Layout.{remembers, modes_of, mode_records_of, modes_start, mode_size, shown_before};
+ghost use Rattle.mode_records.specs.Placed.{Placed, size_bound};
 ghost use Rattle.octets.specs.Bounds.{start_bound};
 
 use certificate::limits;
@@ -15,7 +15,7 @@ pub struct Place {
 
 // The size of a record; in H3 it has mark, signal, goal number, and a goal a link.
 fn size_of(s: &[u8]) -> usize
-    ensures { (result ≡ modeSize s.now) × (result ≤ sizeBound) }
+    ensures { (result ≡ mode_size s.now) × (result ≤ size_bound) }
 {
     if header_record::takes_turns(s) {
         return 4 + 2 * header_record::links_of(s);
@@ -24,7 +24,7 @@ fn size_of(s: &[u8]) -> usize
 }
 
 pub fn place_of(s: &[u8], start: usize) -> Place
-    requires { (start ≤ start_bound) × (start ≡ modesStart s.now) }
+    requires { (start ≤ start_bound) × (start ≡ modes_start s.now) }
     ensures { Placed s.now result }
 {
     Place {
@@ -35,8 +35,8 @@ pub fn place_of(s: &[u8], start: usize) -> Place
 
 // How many records there are, of so many modes.
 pub fn records_of(s: &[u8], modes: usize) -> usize
-    requires { modes ≡ modesOf s.now }
-    ensures { (result ≡ modeRecordsOf s.now) × (result ≤ modes) }
+    requires { modes ≡ modes_of s.now }
+    ensures { (result ≡ mode_records_of s.now) × (result ≤ modes) }
 {
     if header_record::has_memory(s) {
         return modes;
@@ -46,7 +46,7 @@ pub fn records_of(s: &[u8], modes: usize) -> usize
 
 // Where the record of mode m stands.
 pub fn mode_at(place: Place, m: usize) -> usize
-    requires { (m < 256) × (place.start ≤ start_bound) × (place.size ≤ sizeBound) }
+    requires { (m < 256) × (place.start ≤ start_bound) × (place.size ≤ size_bound) }
     ensures { (result ≡ place.start + place.size * m) × (result ≤ 300000) }
 {
     place.start + place.size * m
@@ -55,7 +55,7 @@ pub fn mode_at(place: Place, m: usize) -> usize
 // The signal that mode m remembers, where modes do.
 pub fn shown_before(s: &[u8], place: Place, m: usize) -> usize
     requires { (m < 256) × Placed s.now place × (remembers s.now ≡ true) }
-    ensures { (result ≡ shownBefore s.now m) × (result < 256) }
+    ensures { (result ≡ shown_before s.now m) × (result < 256) }
 {
     octets::byte_at(s, mode_at(place, m) + 2)
 }

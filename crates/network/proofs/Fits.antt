@@ -6,13 +6,13 @@ use native.Mathlib.Nat.{min-le_left, mul-zero}
 use native.Mathlib.Omega.{arith}
 use lib.Dec.{eqb}
 use Rattle.certificate.specs.Loops.{pick}
-use Rattle.certificate.proofs.Loops.{sum-none}
+use Rattle.certificate.proofs.Loops.{sum_none}
 use Rattle.network.specs.Network.{Network}
-use Rattle.network.specs.Flow.{passedIn, gross, next}
+use Rattle.network.specs.Flow.{passed_in, gross, next}
 use Rattle.network.specs.Sound.{Sound}
 use Rattle.network.specs.Laws.{NextFits, GrossFits}
-use Rattle.network.proofs.Sending.{sent-supply}
-use Rattle.network.proofs.Passing.{intoSum, passed-slack}
+use Rattle.network.proofs.Sending.{sent_supply}
+use Rattle.network.proofs.Passing.{into_sum, passed_slack}
 
 pub next_fits : NextFits
 unfolding next
@@ -23,24 +23,24 @@ pub end_fits : (N : Network) (limit x a : ℕ → ℕ) (l : ℕ) → next N limi
 end_fits N limit x a l = omega (arith, next_fits N limit 1 x a l)
 
 -- shares of nothing are nothing
-none_in : (N : Network) (l : ℕ) → intoSum N l (λ t. N.share t * 0) ≡ 0
-none_in N l = sum-none N.turns _ (λ t _. rw mul-zero (go (eqb (N.to t) l)))
+none_in : (N : Network) (l : ℕ) → into_sum N l (λ t. N.share t * 0) ≡ 0
+none_in N l = sum_none N.turns _ (λ t _. rw mul-zero (go (eqb (N.to t) l)))
   where
     go : (q : Bool) → pick q 0 0 ≡ 0
     go true = refl
     go false = refl
 
 -- what comes in by a turn is at most its supply, so all that comes in is at most the room that is left (condition 10)
-passed-room : (N : Network) (green : ℕ → Bool) (limit : ℕ → ℕ) → Sound N green limit → (D l : ℕ) → l < N.links → (x : ℕ → ℕ)
-    → passedIn N limit D x l ≤ 10000 * (D * N.cap l - x l)
-passed-room N green limit S D l hl x =
+passed_room : (N : Network) (green : ℕ → Bool) (limit : ℕ → ℕ) → Sound N green limit → (D l : ℕ) → l < N.links → (x : ℕ → ℕ)
+    → passed_in N limit D x l ≤ 10000 * (D * N.cap l - x l)
+passed_room N green limit S D l hl x =
     omega (
       arith,
       none_in N l,
-      passed-slack N green limit S D l hl x (λ t. 0) (D * N.cap l - x l)
-          (λ t lt e. omega (arith, rw e at (sent-supply N limit D x t (N.from t) lt refl))),
+      passed_slack N green limit S D l hl x (λ t. 0) (D * N.cap l - x l)
+          (λ t lt e. omega (arith, rw e at (sent_supply N limit D x t (N.from t) lt refl))),
     )
 
-pub gross-fits : GrossFits
+pub gross_fits : GrossFits
 unfolding gross
-gross-fits N green limit S D x l hl fits = omega (arith, passed-room N green limit S D l hl x)
+gross_fits N green limit S D x l hl fits = omega (arith, passed_room N green limit S D l hl x)

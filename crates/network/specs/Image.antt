@@ -12,20 +12,20 @@ unfoldable pub beside : Network → ℕ → ℕ → Bool
 beside N l k = eqb (N.tail k) (N.tail l) && not (eqb k l)
 
 -- the corner of the box at which link l's next queue is least: links beside l at their upper edges, all others at their lower ones
-unfoldable pub lowCorner : Network → ℕ → (ℕ → ℕ) → (ℕ → ℕ) → ℕ → ℕ
-lowCorner N l lower upper k = pick (beside N l k) (upper k) (lower k)
+unfoldable pub low_corner : Network → ℕ → (ℕ → ℕ) → (ℕ → ℕ) → ℕ → ℕ
+low_corner N l lower upper k = pick (beside N l k) (upper k) (lower k)
 
 -- the corner at which it is greatest: the other way round
-unfoldable pub highCorner : Network → ℕ → (ℕ → ℕ) → (ℕ → ℕ) → ℕ → ℕ
-highCorner N l lower upper k = pick (beside N l k) (lower k) (upper k)
+unfoldable pub high_corner : Network → ℕ → (ℕ → ℕ) → (ℕ → ℕ) → ℕ → ℕ
+high_corner N l lower upper k = pick (beside N l k) (lower k) (upper k)
 
 -- the ends of link l's image of the box lower .. upper under arrivals low .. high, in ten thousandths of a vehicle
 abbrev pub low_end : Network → (ℕ → ℕ) → (ℕ → ℕ) → (ℕ → ℕ) → (ℕ → ℕ) → ℕ → ℕ
-low_end N limit lower upper low l = next N limit 1 (lowCorner N l lower upper) low l
+low_end N limit lower upper low l = next N limit 1 (low_corner N l lower upper) low l
 
-abbrev pub highEnd : Network → (ℕ → ℕ) → (ℕ → ℕ) → (ℕ → ℕ) → (ℕ → ℕ) → ℕ → ℕ
-highEnd N limit lower upper high l = next N limit 1 (highCorner N l lower upper) high l
+abbrev pub high_end : Network → (ℕ → ℕ) → (ℕ → ℕ) → (ℕ → ℕ) → (ℕ → ℕ) → ℕ → ℕ
+high_end N limit lower upper high l = next N limit 1 (high_corner N l lower upper) high l
 
 -- whether link l's next queue, not cut at cap, exceeds cap for some queues of the box and some arrivals: at the high corner it is greatest
-unfoldable pub exceedsCap : Network → (ℕ → ℕ) → (ℕ → ℕ) → (ℕ → ℕ) → (ℕ → ℕ) → ℕ → Bool
-exceedsCap N limit lower upper high l = ltb (10000 * N.cap l) (gross N limit 1 (highCorner N l lower upper) high l)
+unfoldable pub exceeds_cap : Network → (ℕ → ℕ) → (ℕ → ℕ) → (ℕ → ℕ) → (ℕ → ℕ) → ℕ → Bool
+exceeds_cap N limit lower upper high l = ltb (10000 * N.cap l) (gross N limit 1 (high_corner N l lower upper) high l)

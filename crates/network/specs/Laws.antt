@@ -2,20 +2,20 @@
 use Rattle.std.specs.Prelude.{ℕ, ◌+◌, ◌*◌, ◌-◌, ◌^◌, ◌≤◌, ◌<◌, List, Bool, true, false, ◌≡◌, ◌↔◌}
 use Rattle.certificate.specs.Facts.{Readable}
 use Rattle.certificate.specs.Loops.{pick, sum_to}
-use Rattle.certificate.specs.Layout.{remembers, maxPullSum, linksOf, turnsOf, signalsOf, cap_of, flow_of, startFlowOf, fromOf, toOf, pullOf, greenByteOf, entriesOf, signalOf}
-use Rattle.network.specs.Network.{Network, networkOf, isGreen, limitOf, entryLimit}
+use Rattle.certificate.specs.Layout.{remembers, max_pull_sum, links_of, turns_of, signals_of, cap_of, flow_of, start_flow_of, from_of, to_of, pull_of, green_byte_of, entries_of, signal_of}
+use Rattle.network.specs.Network.{Network, network_of, is_green, limit_of, entry_limit}
 use Rattle.network.specs.Flow.{sent, gross, next}
-use Rattle.network.specs.Conditions.{pullSum, screeningOf}
-use Rattle.network.specs.Image.{low_end, highEnd, exceedsCap}
+use Rattle.network.specs.Conditions.{pull_sum, screening_of}
+use Rattle.network.specs.Image.{low_end, high_end, exceeds_cap}
 use Rattle.network.specs.Sound.{Joined, Sound, Pushes, Within}
 
 -- The flow rule, in plain terms.
 
 -- link j sends at most its queue, its limit and pull × (cap − queue) / 100 of each link that it turns into, and no less than all these allow: the least
 pub record SendsLeast (N : Network) (limit : ℕ → ℕ) (D : ℕ) (x : ℕ → ℕ) (j : ℕ) : Type 0 where
-  pub by-queue : sent N limit D x j ≤ 100 * x j
-  pub by-limit : sent N limit D x j ≤ 100 * (D * limit j)
-  pub by-room : (t : ℕ) → t < N.turns → N.from t ≡ j → sent N limit D x j ≤ N.pull t * (D * N.cap (N.to t) - x (N.to t))
+  pub by_queue : sent N limit D x j ≤ 100 * x j
+  pub by_limit : sent N limit D x j ≤ 100 * (D * limit j)
+  pub by_room : (t : ℕ) → t < N.turns → N.from t ≡ j → sent N limit D x j ≤ N.pull t * (D * N.cap (N.to t) - x (N.to t))
   pub no_less : (k : ℕ) → k ≤ 100 * x j → k ≤ 100 * (D * limit j)
       → ((t : ℕ) → t < N.turns → N.from t ≡ j → k ≤ N.pull t * (D * N.cap (N.to t) - x (N.to t))) → k ≤ sent N limit D x j
 
@@ -33,13 +33,13 @@ Conserved =
 -- the byte of a signal is the sum of the values of its green links, 2 to the l for link l
 abbrev pub GreenByte : Type 0
 GreenByte =
-    (s : List ℕ) → Readable s → (g : ℕ) → g < signalsOf s
-    → greenByteOf s g ≡ sum_to (linksOf s) (λ l. pick (isGreen s g l) (2 ^ l) 0)
+    (s : List ℕ) → Readable s → (g : ℕ) → g < signals_of s
+    → green_byte_of s g ≡ sum_to (links_of s) (λ l. pick (is_green s g l) (2 ^ l) 0)
 
 -- red links add nothing to a pull sum
 abbrev pub RedPullsNothing : Type 0
 RedPullsNothing =
-    (N : Network) (green : ℕ → Bool) (l : ℕ) → ((t : ℕ) → t < N.turns → N.to t ≡ l → green (N.from t) ≡ false) → pullSum N green l ≡ 0
+    (N : Network) (green : ℕ → Bool) (l : ℕ) → ((t : ℕ) → t < N.turns → N.to t ≡ l → green (N.from t) ≡ false) → pull_sum N green l ≡ 0
 
 -- Monotone (004, Theorem 1): what pushes link l higher leaves it at least as high, before the cut at cap and after it
 abbrev pub Monotone : Type 0
@@ -71,7 +71,7 @@ Encloses =
     (N : Network) (green : ℕ → Bool) (limit : ℕ → ℕ) → Sound N green limit
     → (lower upper low high : ℕ → ℕ) (D : ℕ) (x a : ℕ → ℕ)
     → Within N.links lower upper D x → Within N.links low high D a → (l : ℕ) → l < N.links
-    → (D * low_end N limit lower upper low l ≤ next N limit D x a l) × (next N limit D x a l ≤ D * highEnd N limit lower upper high l)
+    → (D * low_end N limit lower upper low l ≤ next N limit D x a l) × (next N limit D x a l ≤ D * high_end N limit lower upper high l)
 
 -- some queues of the closed box and some arrivals of the arrival box, at scale 1, whose next queue on link l is v
 abbrev pub IsMet : Network → (ℕ → ℕ) → (ℕ → ℕ) → (ℕ → ℕ) → (ℕ → ℕ) → (ℕ → ℕ) → ℕ → ℕ → Type 0
@@ -84,7 +84,7 @@ EndsMet =
     (N : Network) (limit lower upper low high : ℕ → ℕ)
     → ((k : ℕ) → k < N.links → lower k ≤ upper k) → ((k : ℕ) → k < N.links → low k ≤ high k) → (l : ℕ)
     → IsMet N limit lower upper low high l (low_end N limit lower upper low l)
-    × IsMet N limit lower upper low high l (highEnd N limit lower upper high l)
+    × IsMet N limit lower upper low high l (high_end N limit lower upper high l)
 
 -- over every scale D, P holds of each next queue of link l from the closed box and the arrival box
 abbrev pub EachNext : Network → (ℕ → ℕ) → (ℕ → ℕ) → (ℕ → ℕ) → (ℕ → ℕ) → (ℕ → ℕ) → ℕ → (ℕ → ℕ → Type 0) → Type 0
@@ -98,14 +98,14 @@ Smallest =
     (N : Network) (limit lower upper low high : ℕ → ℕ)
     → ((k : ℕ) → k < N.links → lower k ≤ upper k) → ((k : ℕ) → k < N.links → low k ≤ high k) → (l p q : ℕ)
     → (EachNext N limit lower upper low high l (λ D v. p * (10000 * D) ≤ v * q) → p * 10000 ≤ low_end N limit lower upper low l * q)
-    × (EachNext N limit lower upper low high l (λ D v. v * q ≤ p * (10000 * D)) → highEnd N limit lower upper high l * q ≤ p * 10000)
+    × (EachNext N limit lower upper low high l (λ D v. v * q ≤ p * (10000 * D)) → high_end N limit lower upper high l * q ≤ p * 10000)
 
 -- link l's next queue, not cut at cap, exceeds cap for some queues of the closed box and some arrivals of the arrival box, over some scale
 pub record Exceeds (N : Network) (limit lower upper low high : ℕ → ℕ) (l : ℕ) : Type 0 where
   pub scale : ℕ
   pub queues : ℕ → ℕ
   pub arrivals : ℕ → ℕ
-  pub scale-least : 1 ≤ scale
+  pub scale_least : 1 ≤ scale
   pub inside : Within N.links lower upper scale queues
   pub arriving : Within N.links low high scale arrivals
   pub above : 10000 * (scale * N.cap l) < gross N limit scale queues arrivals l
@@ -115,33 +115,33 @@ abbrev pub OverflowIsReal : Type 0
 OverflowIsReal =
     (N : Network) (green : ℕ → Bool) (limit : ℕ → ℕ) → Sound N green limit → (lower upper low high : ℕ → ℕ)
     → ((k : ℕ) → k < N.links → lower k ≤ upper k) → ((k : ℕ) → k < N.links → low k ≤ high k) → (l : ℕ) → l < N.links
-    → (exceedsCap N limit lower upper high l ≡ true) ↔ Exceeds N limit lower upper low high l
+    → (exceeds_cap N limit lower upper high l ≡ true) ↔ Exceeds N limit lower upper low high l
 
 -- a certificate that passes the tests before 12 is readable, and under each signal its network is sound
 pub record Screened (s : List ℕ) : Type 0 where
   pub readable : Readable s
-  pub pulls : (g l : ℕ) → g < signalsOf s → l < linksOf s → pullSum (networkOf s) (isGreen s g) l ≤ maxPullSum
-  pub room : (t : ℕ) → t < turnsOf s → 100 * flow_of s (fromOf s t) ≤ pullOf s t * (cap_of s (toOf s t) - flow_of s (toOf s t))
+  pub pulls : (g l : ℕ) → g < signals_of s → l < links_of s → pull_sum (network_of s) (is_green s g) l ≤ max_pull_sum
+  pub room : (t : ℕ) → t < turns_of s → 100 * flow_of s (from_of s t) ≤ pull_of s t * (cap_of s (to_of s t) - flow_of s (to_of s t))
 
 abbrev pub ScreeningIsPlain : Type 0
-ScreeningIsPlain = (s : List ℕ) → ((screeningOf s).number ≡ 0) ↔ Screened s
+ScreeningIsPlain = (s : List ℕ) → ((screening_of s).number ≡ 0) ↔ Screened s
 
 -- whatever was shown before
 abbrev pub ScreenedIsSound : Type 0
-ScreenedIsSound = (s : List ℕ) → Screened s → (h g : ℕ) → g < signalsOf s → Sound (networkOf s) (isGreen s g) (limitOf s h g)
+ScreenedIsSound = (s : List ℕ) → Screened s → (h g : ℕ) → g < signals_of s → Sound (network_of s) (is_green s g) (limit_of s h g)
 
 -- hence under each entry
 abbrev pub EntryIsSound : Type 0
-EntryIsSound = (s : List ℕ) → Screened s → (e : ℕ) → e < entriesOf s → Sound (networkOf s) (isGreen s (signalOf s e)) (entryLimit s e)
+EntryIsSound = (s : List ℕ) → Screened s → (e : ℕ) → e < entries_of s → Sound (network_of s) (is_green s (signal_of s e)) (entry_limit s e)
 
 -- in HD a green link may send its flow and a red one nothing, whatever was shown before
 abbrev pub PlainLimits : Type 0
-PlainLimits = (s : List ℕ) → remembers s ≡ false → (h g l : ℕ) → limitOf s h g l ≡ pick (isGreen s g l) (flow_of s l) 0
+PlainLimits = (s : List ℕ) → remembers s ≡ false → (h g l : ℕ) → limit_of s h g l ≡ pick (is_green s g l) (flow_of s l) 0
 
 -- a link that is green in one step after another may send its flow in the second
 abbrev pub StaysGreen : Type 0
-StaysGreen = (s : List ℕ) (h g l : ℕ) → isGreen s h l ≡ true → isGreen s g l ≡ true → limitOf s h g l ≡ flow_of s l
+StaysGreen = (s : List ℕ) (h g l : ℕ) → is_green s h l ≡ true → is_green s g l ≡ true → limit_of s h g l ≡ flow_of s l
 
 -- one that turned green sends at most its start flow
 abbrev pub TurnsGreen : Type 0
-TurnsGreen = (s : List ℕ) (h g l : ℕ) → isGreen s h l ≡ false → isGreen s g l ≡ true → limitOf s h g l ≡ startFlowOf s l
+TurnsGreen = (s : List ℕ) (h g l : ℕ) → is_green s h l ≡ false → is_green s g l ≡ true → limit_of s h g l ≡ start_flow_of s l

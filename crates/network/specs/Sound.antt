@@ -1,21 +1,21 @@
 -- What the theorems on the flow rule ask of a network, its signal and its limits, and the order of queues that they speak of.
 use Rattle.std.specs.Prelude.{ℕ, ◌+◌, ◌*◌, ◌-◌, ◌≤◌, ◌<◌, Bool, false, ◌≡◌}
-use Rattle.certificate.specs.Layout.{maxPullSum}
+use Rattle.certificate.specs.Layout.{max_pull_sum}
 use Rattle.network.specs.Network.{Network}
-use Rattle.network.specs.Conditions.{pullSum}
+use Rattle.network.specs.Conditions.{pull_sum}
 
 -- turns join existing links, a pair of links has one turn, and no link leads to its own tail
 pub record Joined (N : Network) : Type 0 where
-  pub from-link : (t : ℕ) → t < N.turns → N.from t < N.links
-  pub to-link : (t : ℕ) → t < N.turns → N.to t < N.links
+  pub from_link : (t : ℕ) → t < N.turns → N.from t < N.links
+  pub to_link : (t : ℕ) → t < N.turns → N.to t < N.links
   pub joined : (t : ℕ) → t < N.turns → N.head (N.from t) ≡ N.tail (N.to t)
   pub no_loop : (l : ℕ) → l < N.links → N.head l ≡ N.tail l → ⊥
-  pub one-turn : (s t : ℕ) → s < N.turns → t < N.turns → N.from s ≡ N.from t → N.to s ≡ N.to t → s ≡ t
+  pub one_turn : (s t : ℕ) → s < N.turns → t < N.turns → N.from s ≡ N.from t → N.to s ≡ N.to t → s ≡ t
 
 -- conditions 10 and 11 under a signal, and limits that are 0 on red links and at most flow on green ones
 pub record Sound (N : Network) (green : ℕ → Bool) (limit : ℕ → ℕ) : Type 0 where
   pub joins : Joined N
-  pub pulls : (l : ℕ) → l < N.links → pullSum N green l ≤ maxPullSum
+  pub pulls : (l : ℕ) → l < N.links → pull_sum N green l ≤ max_pull_sum
   pub room : (t : ℕ) → t < N.turns → 100 * N.flow (N.from t) ≤ N.pull t * (N.cap (N.to t) - N.flow (N.to t))
   pub red : (l : ℕ) → l < N.links → green l ≡ false → limit l ≡ 0
   pub most : (l : ℕ) → l < N.links → limit l ≤ N.flow l

@@ -8,14 +8,14 @@ use native.Mathlib.Omega.{arith}
 use lib.ListN.{length, set, take, drop, get_or, replicate, length-drop, drop_of_length-le}
 use lib.Seq.{take-length, take_all, drop-drop}
 
-copy-suc : (n : ℕ) (s d : List ℕ) → n < length s → n < length d → set (take n s ++ drop n d) n (get_or s n 0) ≡ take (suc n) s ++ drop (suc n) d
-copy-suc n [] d k l = absurd (not-suc-le-zero k)
-copy-suc n (y ∷ s) [] k l = absurd (not-suc-le-zero l)
-copy-suc zero (y ∷ s) (x ∷ d) k l = refl
-copy-suc (suc n) (y ∷ s) (x ∷ d) k l = ap (λ (t : List ℕ). y ∷ t) (copy-suc n s d (le_of_suc-le-suc k) (le_of_suc-le-suc l))
+copy_suc : (n : ℕ) (s d : List ℕ) → n < length s → n < length d → set (take n s ++ drop n d) n (get_or s n 0) ≡ take (suc n) s ++ drop (suc n) d
+copy_suc n [] d k l = absurd (not-suc-le-zero k)
+copy_suc n (y ∷ s) [] k l = absurd (not-suc-le-zero l)
+copy_suc zero (y ∷ s) (x ∷ d) k l = refl
+copy_suc (suc n) (y ∷ s) (x ∷ d) k l = ap (λ (t : List ℕ). y ∷ t) (copy_suc n s d (le_of_suc-le-suc k) (le_of_suc-le-suc l))
 
 pub copy_more : (n : ℕ) (s d : List ℕ) → n < length s → n < length d → set (take n s ++ drop n d) n (get_or s n 0) ≡ take (n + 1) s ++ drop (n + 1) d
-copy_more n s d k l = rw add-one (copy-suc n s d k l)
+copy_more n s d k l = rw add-one (copy_suc n s d k l)
 
 drop-replicate : (n m v : ℕ) → drop n (replicate m v) ≡ replicate (m - n) v
 drop-replicate zero m v = rw sub-zero
@@ -29,8 +29,8 @@ copied_all m s = rw (take-length, drop-replicate)
 -- What a callee wrote into the part of b that starts at start, said of b.
 
 -- the part from start to the end is `drop start b`
-part-is : (b : List ℕ) (start : ℕ) → take (length b - start) (drop start b) ≡ drop start b
-part-is b start = take_all (length b - start) (drop start b) (omega (arith, length-drop start b))
+part_is : (b : List ℕ) (start : ℕ) → take (length b - start) (drop start b) ≡ drop start b
+part_is b start = take_all (length b - start) (drop start b) (omega (arith, length-drop start b))
 
 -- nothing lies behind it
 behind : (b : List ℕ) (start : ℕ) → drop (length b - start) (drop start b) ≡ []
@@ -39,4 +39,4 @@ behind b start = drop_of_length-le (drop start b) {i = length b - start} (omega 
 -- p, n bytes, was put at the part's front
 pub put_back : (b p e : List ℕ) (start n : ℕ) → e ≡ p ++ drop n (take (length b - start) (drop start b))
     → take start b ++ (e ++ drop (length b - start) (drop start b)) ≡ take start b ++ (p ++ drop (start + n) b)
-put_back b p e start n h = rw (behind b start, append-nil, h, part-is b start, drop-drop)
+put_back b p e start n h = rw (behind b start, append-nil, h, part_is b start, drop-drop)

@@ -4,5 +4,5 @@ use native.Mathlib.Nat.{mul-le-mul}
 use native.Mathlib.Omega.{arith}
 
 -- the bounds are numerals at each use: m * n computes
-pub product-most : (m n : ℕ) {a b : ℕ} → a ≤ m → b ≤ n → a * b ≤ m * n
-product-most m n p q = mul-le-mul p q
+pub product_most : (m n : ℕ) {a b : ℕ} → a ≤ m → b ≤ n → a * b ≤ m * n
+product_most m n p q = mul-le-mul p q

@@ -11,5 +11,5 @@ pub pick_no : (q : Bool) (v a b : ℕ) → q ≡ false → v ≡ b → v ≡ pic
 pick_no q v a b e p = rw e p
 
 -- a product of two values that are known
-pub times-same : (a b m n : ℕ) → a ≡ m → b ≡ n → a * b ≡ m * n
-times-same a b m n p q = rw (p, q)
+pub times_same : (a b m n : ℕ) → a ≡ m → b ≡ n → a * b ≡ m * n
+times_same a b m n p q = rw (p, q)

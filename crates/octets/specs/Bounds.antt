@@ -5,13 +5,13 @@ use Rattle.std.specs.Prelude.{ℕ}
 abbrev pub start_bound : ℕ
 start_bound = 100000
 
-abbrev pub gridsBound : ℕ
-gridsBound = 50000
+abbrev pub grids_bound : ℕ
+grids_bound = 50000
 
 -- of where an entry stands, however many there are
-abbrev pub entryBound : ℕ
-entryBound = 900000
+abbrev pub entry_bound : ℕ
+entry_bound = 900000
 
 -- of any offset, and of any place of a report
-abbrev pub offsetBound : ℕ
-offsetBound = 1000000
+abbrev pub offset_bound : ℕ
+offset_bound = 1000000

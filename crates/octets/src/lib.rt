@@ -1,8 +1,8 @@
 // Bytes at an offset, and the opening of a record: mark present, mark right, record whole.
 ghost use Rattle.std.specs.Prelude.{◌≡◌, ◌+◌, ◌<◌, ◌≤◌, length};
-ghost use Rattle.certificate.specs.Octets.{byte_at, u16At};
-ghost use Rattle.certificate.specs.Checks.{result, refusal, fine, need, or_else, marked, opened};
-ghost use Rattle.octets.specs.Bounds.{offsetBound};
+ghost use Rattle.certificate.specs.Octets.{byte_at, u16_at};
+ghost use Rattle.certificate.specs.Checks.{report_with, refusal, fine, need, or_else, marked, opened};
+ghost use Rattle.octets.specs.Bounds.{offset_bound};
 
 pub mod filling;
 pub mod numbers;
@@ -11,7 +11,7 @@ use certificate::Report;
 
 // The byte at an offset, 0 past the end.
 pub fn byte_at(s: &[u8], at: usize) -> usize
-    ensures* { λ r. ⌜ (r ≡ byte_at s.now at) × (r < 256) ⌝ }
+    ensures { (result ≡ byte_at s.now at) × (result < 256) }
 {
     if at < s.len() {
         numbers::wide(s[at])
@@ -22,8 +22,8 @@ pub fn byte_at(s: &[u8], at: usize) -> usize
 
 // The two-byte number at an offset, high byte first.
 pub fn u16_at(s: &[u8], at: usize) -> usize
-    requires { at ≤ offsetBound }
-    ensures* { λ r. ⌜ (r ≡ u16At s.now at) × (r < 65536) ⌝ }
+    requires { at ≤ offset_bound }
+    ensures { (result ≡ u16_at s.now at) × (result < 65536) }
 {
     byte_at(s, at) * 256 + byte_at(s, at + 1)
 }
@@ -31,22 +31,22 @@ pub fn u16_at(s: &[u8], at: usize) -> usize
 // The same where the offset is known to lie within: no test.
 pub fn byte_within(s: &[u8], at: usize) -> usize
     requires { at < length s.now }
-    ensures* { λ r. ⌜ (r ≡ byte_at s.now at) × (r < 256) ⌝ }
+    ensures { (result ≡ byte_at s.now at) × (result < 256) }
 {
     numbers::wide(s[at])
 }
 
 pub fn u16_within(s: &[u8], at: usize) -> usize
-    requires { (at ≤ offsetBound) × (at + 1 < length s.now) }
-    ensures* { λ r. ⌜ (r ≡ u16At s.now at) × (r < 65536) ⌝ }
+    requires { (at ≤ offset_bound) × (at + 1 < length s.now) }
+    ensures { (result ≡ u16_at s.now at) × (result < 65536) }
 {
     byte_within(s, at) * 256 + byte_within(s, at + 1)
 }
 
 // A result: number, places A and B, count.
 pub fn report(number: u8, a: usize, b: usize, count: u32) -> Report
-    requires { (a ≤ offsetBound) × (b ≤ offsetBound) }
-    ensures* { λ r. ⌜ r ≡ result number a b count ⌝ }
+    requires { (a ≤ offset_bound) × (b ≤ offset_bound) }
+    ensures { result ≡ report_with number a b count }
 {
     Report {
         number,
@@ -57,7 +57,7 @@ pub fn report(number: u8, a: usize, b: usize, count: u32) -> Report
 }
 
 pub fn accept() -> Report
-    ensures* { λ r. ⌜ r ≡ fine ⌝ }
+    ensures { result ≡ fine }
 {
     Report {
         number: 0,
@@ -68,8 +68,8 @@ pub fn accept() -> Report
 }
 
 pub fn refuse(number: u8, a: usize) -> Report
-    requires { a ≤ offsetBound }
-    ensures* { λ r. ⌜ r ≡ refusal number a ⌝ }
+    requires { a ≤ offset_bound }
+    ensures { result ≡ refusal number a }
 {
     Report {
         number,
@@ -81,16 +81,16 @@ pub fn refuse(number: u8, a: usize) -> Report
 
 // The two-byte mark at o, which is known to lie within, is m and k.
 pub fn marked_within(s: &[u8], o: usize, m: usize, k: usize) -> bool
-    requires { (o ≤ offsetBound) × (o + 2 ≤ length s.now) }
-    ensures* { λ r. ⌜ r ≡ marked s.now o m k ⌝ }
+    requires { (o ≤ offset_bound) × (o + 2 ≤ length s.now) }
+    ensures { result ≡ marked s.now o m k }
 {
     (byte_within(s, o) == m) & (byte_within(s, o + 1) == k)
 }
 
 // The same at any offset, for a mark whose second byte is not 0: none stands past the end.
 pub fn marked_as(s: &[u8], o: usize, m: usize, k: usize) -> bool
-    requires { (o ≤ offsetBound) × (1 ≤ k) }
-    ensures* { λ r. ⌜ r ≡ marked s.now o m k ⌝ }
+    requires { (o ≤ offset_bound) × (1 ≤ k) }
+    ensures { result ≡ marked s.now o m k }
 {
     if s.len() < o + 2 {
         return false;
@@ -100,8 +100,8 @@ pub fn marked_as(s: &[u8], o: usize, m: usize, k: usize) -> bool
 
 // The record at o: its mark present (1), right (2), which `mark` says, and all of its size there (1).
 pub fn check_opened(s: &[u8], o: usize, mark: bool, size: usize) -> Report
-    requires { (o ≤ offsetBound) × (size ≤ 1000) }
-    ensures* { λ r. ⌜ r ≡ opened s.now o mark size ⌝ }
+    requires { (o ≤ offset_bound) × (size ≤ 1000) }
+    ensures { result ≡ opened s.now o mark size }
 {
     if s.len() < o + 2 {
         return refuse(1, o);
@@ -117,7 +117,7 @@ pub fn check_opened(s: &[u8], o: usize, mark: bool, size: usize) -> Report
 
 // The first result where it refuses, else the second.
 pub fn or_else(first: Report, second: Report) -> Report
-    ensures* { λ r. ⌜ r ≡ or_else first second ⌝ }
+    ensures { result ≡ or_else first second }
 {
     if first.number != 0 {
         return first;
@@ -127,8 +127,8 @@ pub fn or_else(first: Report, second: Report) -> Report
 
 // A record's result: its opening where that refuses, else the refusal of that number where its fields are not as they must be.
 pub fn record_result(opening: Report, ok: bool, number: u8, o: usize) -> Report
-    requires { o ≤ offsetBound }
-    ensures* { λ r. ⌜ r ≡ or_else opening (need ok (refusal number o) fine) ⌝ }
+    requires { o ≤ offset_bound }
+    ensures { result ≡ or_else opening (need ok (refusal number o) fine) }
 {
     if opening.number != 0 {
         return opening;

@@ -1,7 +1,7 @@
 // The index by cell: for each cell the first entry at or above it, so that an entry is found without a search through all.
 ghost use Rattle.std.specs.Prelude.{◌≡◌, ◌≤◌, ◌<◌};
-ghost use Rattle.certificate.specs.Layout.{maxCells, maxEntries, entriesOf, cells_of, entriesStart};
-ghost use Rattle.rank_tables.specs.Index.{entryFrom, IsIndex};
+ghost use Rattle.certificate.specs.Layout.{max_cells, max_entries, entries_of, cells_of, entries_start};
+ghost use Rattle.rank_tables.specs.Index.{entry_from, IsIndex};
 ghost use Rattle.octets.specs.Bounds.{start_bound};
 
 use certificate::limits;
@@ -9,8 +9,8 @@ use entry_records::entries;
 
 // The first entry at or above cell d, from entry e on, where no entry before e is.
 fn first_from(s: &[u8], start: usize, entries: usize, e: usize, d: usize) -> usize
-    requires { (start ≤ start_bound) × (start ≡ entriesStart s.now) × (entries ≤ maxEntries) × (entries ≡ entriesOf s.now) × (e ≤ entryFrom s.now d) }
-    ensures { (result ≡ entryFrom s.now d) × (result ≤ maxCells) }
+    requires { (start ≤ start_bound) × (start ≡ entries_start s.now) × (entries ≤ max_entries) × (entries ≡ entries_of s.now) × (e ≤ entry_from s.now d) }
+    ensures { (result ≡ entry_from s.now d) × (result ≤ max_cells) }
 {
     let mut f = e;
     while f < entries {
@@ -29,7 +29,7 @@ pub fn index_of(
     entries: usize,
     cells: usize,
 ) -> [u16; limits::MAX_CELLS + 1]
-    requires { (start ≤ start_bound) × (start ≡ entriesStart s.now) × (entries ≤ maxEntries) × (entries ≡ entriesOf s.now) × (cells ≤ maxCells) × (cells ≡ cells_of s.now) }
+    requires { (start ≤ start_bound) × (start ≡ entries_start s.now) × (entries ≤ max_entries) × (entries ≡ entries_of s.now) × (cells ≤ max_cells) × (cells ≡ cells_of s.now) }
     ensures { IsIndex s.now result }
 {
     let mut index = [0u16; limits::MAX_CELLS + 1];

@@ -1,8 +1,8 @@
 // Looking up the entry of a cell and a mode.
 ghost use Rattle.std.specs.Prelude.{◌≡◌, ℕ, ◌≤◌, ◌<◌};
-ghost use Rattle.certificate.specs.Layout.{maxCells, maxEntries, entriesOf, cells_of, entriesStart};
-ghost use Rattle.judging.specs.Lookup.{entryFor};
-ghost use Rattle.rank_tables.specs.Index.{entryFrom, IsIndex, CellsAscend, CellFrom};
+ghost use Rattle.certificate.specs.Layout.{max_cells, max_entries, entries_of, cells_of, entries_start};
+ghost use Rattle.judging.specs.Lookup.{entry_for};
+ghost use Rattle.rank_tables.specs.Index.{entry_from, IsIndex, CellsAscend, CellFrom};
 ghost use Rattle.octets.specs.Bounds.{start_bound};
 
 use certificate::limits;
@@ -11,8 +11,8 @@ use octets::numbers;
 
 // The first entry at or above cell d, by bisection; the number of entries where there is none.
 fn first_at(s: &[u8], start: usize, entries: usize, d: usize) -> usize
-    requires { (start ≤ start_bound) × (start ≡ entriesStart s.now) × (entries ≤ maxEntries) × (entries ≡ entriesOf s.now) × CellsAscend s.now }
-    ensures { (result ≡ entryFrom s.now d) × (result ≤ entries) }
+    requires { (start ≤ start_bound) × (start ≡ entries_start s.now) × (entries ≤ max_entries) × (entries ≡ entries_of s.now) × CellsAscend s.now }
+    ensures { (result ≡ entry_from s.now d) × (result ≤ entries) }
 {
     let mut low = 0;
     let mut high = entries;
@@ -29,8 +29,8 @@ fn first_at(s: &[u8], start: usize, entries: usize, d: usize) -> usize
 
 // The entry of a mode among those of one cell, which stand from first to before end; the number of entries where there is none.
 fn among(s: &[u8], start: usize, entries: usize, first: usize, end: usize, m: usize) -> usize
-    requires { (start ≤ start_bound) × (start ≡ entriesStart s.now) × (entries ≤ maxEntries) × (entries ≡ entriesOf s.now) × CellsAscend s.now × (end ≤ entries) }
-    ensures { (result ≤ entries) × ((d : ℕ) → CellFrom s.now d first end → result ≡ entryFor s.now d m) }
+    requires { (start ≤ start_bound) × (start ≡ entries_start s.now) × (entries ≤ max_entries) × (entries ≡ entries_of s.now) × CellsAscend s.now × (end ≤ entries) }
+    ensures { (result ≤ entries) × ((d : ℕ) → CellFrom s.now d first end → result ≡ entry_for s.now d m) }
 {
     let mut e = first;
     while e < end {
@@ -44,8 +44,8 @@ fn among(s: &[u8], start: usize, entries: usize, first: usize, end: usize, m: us
 
 // The entry of a cell and a mode, by bisection; the number of entries where there is none.
 pub fn find_entry(s: &[u8], start: usize, entries: usize, cell: usize, mode: usize) -> usize
-    requires { (start ≤ start_bound) × (start ≡ entriesStart s.now) × (entries ≤ maxEntries) × (entries ≡ entriesOf s.now) × CellsAscend s.now × (cell ≤ maxCells) }
-    ensures { (result ≡ entryFor s.now cell mode) × (result ≤ entries) }
+    requires { (start ≤ start_bound) × (start ≡ entries_start s.now) × (entries ≤ max_entries) × (entries ≡ entries_of s.now) × CellsAscend s.now × (cell ≤ max_cells) }
+    ensures { (result ≡ entry_for s.now cell mode) × (result ≤ entries) }
 {
     let first = first_at(s, start, entries, cell);
     let end = first_at(s, start, entries, cell + 1);
@@ -61,8 +61,8 @@ pub fn lookup(
     d: usize,
     m: usize,
 ) -> usize
-    requires { (start ≤ start_bound) × (start ≡ entriesStart s.now) × (entries ≤ maxEntries) × (entries ≡ entriesOf s.now) × CellsAscend s.now × IsIndex s.now index.now × (d < maxCells) × (d < cells_of s.now) }
-    ensures { (result ≡ entryFor s.now d m) × (result ≤ entries) }
+    requires { (start ≤ start_bound) × (start ≡ entries_start s.now) × (entries ≤ max_entries) × (entries ≡ entries_of s.now) × CellsAscend s.now × IsIndex s.now index.now × (d < max_cells) × (d < cells_of s.now) }
+    ensures { (result ≡ entry_for s.now d m) × (result ≤ entries) }
 {
     let end = numbers::wide_pair(index[d + 1]);
     let first = numbers::wide_pair(index[d]);

@@ -1,6 +1,6 @@
 // The table of ranks: for each mode and cell the rank of their entry, so that a successor is looked up by one read.
 ghost use Rattle.std.specs.Prelude.{◌≡◌, ◌*◌, ◌≤◌, ◌<◌, length};
-ghost use Rattle.certificate.specs.Layout.{maxCells, maxEntries, maxModes, modesOf, entriesOf, cells_of, entriesStart};
+ghost use Rattle.certificate.specs.Layout.{max_cells, max_entries, max_modes, modes_of, entries_of, cells_of, entries_start};
 ghost use Rattle.rank_tables.specs.Index.{IsIndex, CellsAscend, rank_at, RanksOf};
 ghost use Rattle.octets.specs.Bounds.{start_bound};
 
@@ -20,7 +20,7 @@ fn rank_at(
     d: usize,
     m: usize,
 ) -> u32
-    requires { (start ≤ start_bound) × (start ≡ entriesStart s.now) × (entries ≤ maxEntries) × (entries ≡ entriesOf s.now) × CellsAscend s.now × IsIndex s.now index.now × (d < maxCells) × (d < cells_of s.now) }
+    requires { (start ≤ start_bound) × (start ≡ entries_start s.now) × (entries ≤ max_entries) × (entries ≡ entries_of s.now) × CellsAscend s.now × IsIndex s.now index.now × (d < max_cells) × (d < cells_of s.now) }
     ensures { result ≡ rank_at s.now d m }
 {
     let e = lookup::lookup(s, start, entries, index, d, m);
@@ -40,7 +40,7 @@ pub fn fill_ranks(
     index: &[u16; limits::MAX_CELLS + 1],
     ranks: &mut [u32],
 )
-    requires { (start ≤ start_bound) × (start ≡ entriesStart s.now) × (entries ≤ maxEntries) × (entries ≡ entriesOf s.now) × CellsAscend s.now × IsIndex s.now index.now × (modes ≤ maxModes) × (modes ≡ modesOf s.now) × (1 ≤ cells) × (cells ≤ maxCells) × (cells ≡ cells_of s.now) × (length ranks.old ≡ maxModes * maxCells) }
+    requires { (start ≤ start_bound) × (start ≡ entries_start s.now) × (entries ≤ max_entries) × (entries ≡ entries_of s.now) × CellsAscend s.now × IsIndex s.now index.now × (modes ≤ max_modes) × (modes ≡ modes_of s.now) × (1 ≤ cells) × (cells ≤ max_cells) × (cells ≡ cells_of s.now) × (length ranks.old ≡ max_modes * max_cells) }
     ensures { RanksOf s.now ranks.new }
 {
     for k in 0..modes * cells {

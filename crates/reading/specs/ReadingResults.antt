@@ -6,85 +6,85 @@ use Rattle.reading.specs.declared.Reading.{Reading}
 use Rattle.reading.specs.declared.Starts.{Starts}
 use Rattle.certificate.specs.Loops.{pick}
 use Rattle.certificate.specs.Checks.{or_else}
-use Rattle.certificate.specs.Layout.{maxLinks, maxTurns, maxSignals, maxModes, maxBoxes, maxEntries, maxCells, linksOf, turnsOf, signalsOf, modesOf, boxesOf, entriesOf, turnsStart, signalsStart, modesStart, modeSize, gridStart, gridAt, cells_of, arrivalsStart, entriesStart}
-use Rattle.certificate.specs.Records.{endFault}
-use Rattle.certificate.specs.Reading.{linksFault, turnsFault, signalsFault, modesFault, gridsFault, arrivalsFault, entriesFault}
+use Rattle.certificate.specs.Layout.{max_links, max_turns, max_signals, max_modes, max_boxes, max_entries, max_cells, links_of, turns_of, signals_of, modes_of, boxes_of, entries_of, turns_start, signals_start, modes_start, mode_size, grid_start, grid_at, cells_of, arrivals_start, entries_start}
+use Rattle.certificate.specs.Records.{end_fault}
+use Rattle.certificate.specs.Reading.{links_fault, turns_fault, signals_fault, modes_fault, grids_fault, arrivals_fault, entries_fault}
 use Rattle.octets.specs.Tables.{table_of}
-use Rattle.octets.specs.Bounds.{gridsBound, start_bound}
-use Rattle.mode_records.specs.Placed.{sizeBound}
+use Rattle.octets.specs.Bounds.{grids_bound, start_bound}
+use Rattle.mode_records.specs.Placed.{size_bound}
 
 -- where the records of turns, signals, modes and grids begin
 pub record StartsOf (s : List ℕ) (starts : Starts) : Type 0 where
-  pub turns-is : starts.turns ≡ turnsStart s
-  pub turns-most : starts.turns ≤ gridsBound
-  pub signals-is : starts.signals ≡ signalsStart s
-  pub signals-most : starts.signals ≤ gridsBound
-  pub modes-is : starts.modes ≡ modesStart s
-  pub modes-most : starts.modes ≤ gridsBound
-  pub grids-is : starts.grids ≡ gridStart s
-  pub grids-most : starts.grids ≤ gridsBound
+  pub turns_is : starts.turns ≡ turns_start s
+  pub turns_most : starts.turns ≤ grids_bound
+  pub signals_is : starts.signals ≡ signals_start s
+  pub signals_most : starts.signals ≤ grids_bound
+  pub modes_is : starts.modes ≡ modes_start s
+  pub modes_most : starts.modes ≤ grids_bound
+  pub grids_is : starts.grids ≡ grid_start s
+  pub grids_most : starts.grids ≤ grids_bound
 
 -- where the grid record of link l stands, and 0 where there is no such link
-abbrev pub gridPlace : List ℕ → ℕ → ℕ
-gridPlace s l = pick (ltb l (linksOf s)) (gridAt s l) 0
+abbrev pub grid_place : List ℕ → ℕ → ℕ
+grid_place s l = pick (ltb l (links_of s)) (grid_at s l) 0
 
 -- the layout of a certificate
 abbrev pub layout_of : List ℕ → Layout
 layout_of s =
     record {
-      links = linksOf s;
-      turns = turnsOf s;
-      signals = signalsOf s;
-      modes = modesOf s;
-      boxes = boxesOf s;
-      entries = entriesOf s;
-      turns_start = turnsStart s;
-      signals_start = signalsStart s;
-      modes_start = modesStart s;
-      mode_size = modeSize s;
-      grids = table_of maxLinks (gridPlace s);
-      arrivals_start = arrivalsStart s;
-      entries_start = entriesStart s;
+      links = links_of s;
+      turns = turns_of s;
+      signals = signals_of s;
+      modes = modes_of s;
+      boxes = boxes_of s;
+      entries = entries_of s;
+      turns_start = turns_start s;
+      signals_start = signals_start s;
+      modes_start = modes_start s;
+      mode_size = mode_size s;
+      grids = table_of max_links (grid_place s);
+      arrivals_start = arrivals_start s;
+      entries_start = entries_start s;
       cells = cells_of s;
     }
 
 -- a layout is that of s, field by field, within the limits of the format
 pub record LaidOut (s : List ℕ) (layout : Layout) : Type 0 where
   pub is : layout ≡ layout_of s
-  pub links-are : layout.links ≡ linksOf s
-  pub links-least : 1 ≤ layout.links
-  pub links-most : layout.links ≤ maxLinks
-  pub turns-are : layout.turns ≡ turnsOf s
-  pub turns-most : layout.turns ≤ maxTurns
-  pub signals-are : layout.signals ≡ signalsOf s
-  pub signals-least : 1 ≤ layout.signals
-  pub signals-most : layout.signals ≤ maxSignals
-  pub modes-are : layout.modes ≡ modesOf s
-  pub modes-least : 1 ≤ layout.modes
-  pub modes-most : layout.modes ≤ maxModes
-  pub boxes-are : layout.boxes ≡ boxesOf s
-  pub boxes-least : 1 ≤ layout.boxes
-  pub boxes-most : layout.boxes ≤ maxBoxes
-  pub entries-are : layout.entries ≡ entriesOf s
-  pub entries-least : 1 ≤ layout.entries
-  pub entries-most : layout.entries ≤ maxEntries
-  pub turns-start-is : layout.turns_start ≡ turnsStart s
-  pub turns-start-most : layout.turns_start ≤ start_bound
-  pub signals-start-is : layout.signals_start ≡ signalsStart s
-  pub signals-start-most : layout.signals_start ≤ start_bound
-  pub modes-start-is : layout.modes_start ≡ modesStart s
-  pub modes-start-most : layout.modes_start ≤ start_bound
-  pub mode-size-is : layout.mode_size ≡ modeSize s
-  pub mode-size-most : layout.mode_size ≤ sizeBound
-  pub grid-is : (l : ℕ) → l < linksOf s → get_or layout.grids l 0 ≡ gridAt s l
-  pub grid-most : (l : ℕ) → l < linksOf s → gridAt s l ≤ start_bound
-  pub arrivals-start-is : layout.arrivals_start ≡ arrivalsStart s
-  pub arrivals-start-most : layout.arrivals_start ≤ start_bound
-  pub entries-start-is : layout.entries_start ≡ entriesStart s
-  pub entries-start-most : layout.entries_start ≤ start_bound
+  pub links_are : layout.links ≡ links_of s
+  pub links_least : 1 ≤ layout.links
+  pub links_most : layout.links ≤ max_links
+  pub turns_are : layout.turns ≡ turns_of s
+  pub turns_most : layout.turns ≤ max_turns
+  pub signals_are : layout.signals ≡ signals_of s
+  pub signals_least : 1 ≤ layout.signals
+  pub signals_most : layout.signals ≤ max_signals
+  pub modes_are : layout.modes ≡ modes_of s
+  pub modes_least : 1 ≤ layout.modes
+  pub modes_most : layout.modes ≤ max_modes
+  pub boxes_are : layout.boxes ≡ boxes_of s
+  pub boxes_least : 1 ≤ layout.boxes
+  pub boxes_most : layout.boxes ≤ max_boxes
+  pub entries_are : layout.entries ≡ entries_of s
+  pub entries_least : 1 ≤ layout.entries
+  pub entries_most : layout.entries ≤ max_entries
+  pub turns_start_is : layout.turns_start ≡ turns_start s
+  pub turns_start_most : layout.turns_start ≤ start_bound
+  pub signals_start_is : layout.signals_start ≡ signals_start s
+  pub signals_start_most : layout.signals_start ≤ start_bound
+  pub modes_start_is : layout.modes_start ≡ modes_start s
+  pub modes_start_most : layout.modes_start ≤ start_bound
+  pub mode_size_is : layout.mode_size ≡ mode_size s
+  pub mode_size_most : layout.mode_size ≤ size_bound
+  pub grid_is : (l : ℕ) → l < links_of s → get_or layout.grids l 0 ≡ grid_at s l
+  pub grid_most : (l : ℕ) → l < links_of s → grid_at s l ≤ start_bound
+  pub arrivals_start_is : layout.arrivals_start ≡ arrivals_start s
+  pub arrivals_start_most : layout.arrivals_start ≤ start_bound
+  pub entries_start_is : layout.entries_start ≡ entries_start s
+  pub entries_start_most : layout.entries_start ≤ start_bound
   pub cells_are : layout.cells ≡ cells_of s
-  pub cells-least : 1 ≤ layout.cells
-  pub cells-most : layout.cells ≤ maxCells
+  pub cells_least : 1 ≤ layout.cells
+  pub cells_most : layout.cells ≤ max_cells
 
 -- the layout that goes with a refusal
 abbrev pub no_layout : Layout
@@ -100,24 +100,24 @@ no_layout =
       signals_start = 0;
       modes_start = 0;
       mode_size = 0;
-      grids = replicate maxLinks 0;
+      grids = replicate max_links 0;
       arrivals_start = 0;
       entries_start = 0;
       cells = 0;
     }
 
 -- parts of reading: LK, TN, SG and MD; AR, EN and ZZ; all from GR on
-unfoldable pub networkFault : List ℕ → Report
-networkFault s = or_else (linksFault s) (or_else (turnsFault s) (or_else (signalsFault s) (modesFault s)))
+unfoldable pub network_fault : List ℕ → Report
+network_fault s = or_else (links_fault s) (or_else (turns_fault s) (or_else (signals_fault s) (modes_fault s)))
 
-unfoldable pub tailFault : List ℕ → Report
-tailFault s = or_else (arrivalsFault s) (or_else (entriesFault s) (endFault s))
+unfoldable pub tail_fault : List ℕ → Report
+tail_fault s = or_else (arrivals_fault s) (or_else (entries_fault s) (end_fault s))
 
-unfoldable pub backFault : List ℕ → Report
-backFault s = or_else (gridsFault s) (tailFault s)
+unfoldable pub back_fault : List ℕ → Report
+back_fault s = or_else (grids_fault s) (tail_fault s)
 
 -- what reading answers: the report, and the layout where that is no refusal
 pub record ReadAs (s : List ℕ) (fault : Report) (r : Reading) : Type 0 where
-  pub report-is : r.report ≡ fault
+  pub report_is : r.report ≡ fault
   pub laid : r.report.number ≡ 0 → LaidOut s r.layout
   pub none : (r.report.number ≡ 0 → ⊥) → r.layout ≡ no_layout

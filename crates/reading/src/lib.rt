@@ -1,12 +1,12 @@
 // A whole certificate: every record in its turn, and where the records stand.
 ghost use Rattle.std.specs.Prelude.{◌≡◌, ◌≤◌};
-ghost use Rattle.certificate.specs.Layout.{linksOf, end_at};
-ghost use Rattle.certificate.specs.Records.{endFault};
+ghost use Rattle.certificate.specs.Layout.{links_of, end_at};
+ghost use Rattle.certificate.specs.Records.{end_fault};
 ghost use Rattle.certificate.specs.Reading.{reading_of};
 ghost use Rattle.certificate.specs.Facts.{HeaderFacts};
 ghost use Rattle.box_records.specs.GridRecords.{GridsLaid};
-ghost use Rattle.reading.specs.ReadingResults.{StartsOf, LaidOut, ReadAs, networkFault, tailFault, backFault, no_layout};
-ghost use Rattle.octets.specs.Bounds.{entryBound};
+ghost use Rattle.reading.specs.ReadingResults.{StartsOf, LaidOut, ReadAs, network_fault, tail_fault, back_fault, no_layout};
+ghost use Rattle.octets.specs.Bounds.{entry_bound};
 
 use box_records::{arrivals, grids};
 use certificate::{Report, limits};
@@ -44,8 +44,8 @@ pub struct Reading {
 
 // ZZ: nothing follows.
 fn check_end(s: &[u8], at: usize) -> Report
-    requires { (at ≤ entryBound) × (at ≡ end_at s.now) }
-    ensures { result ≡ endFault s.now }
+    requires { (at ≤ entry_bound) × (at ≡ end_at s.now) }
+    ensures { result ≡ end_fault s.now }
 {
     let opening = octets::check_opened(s, at, octets::marked_as(s, at, 90, 90), limits::END_SIZE);
     let after = at + limits::END_SIZE;
@@ -103,7 +103,7 @@ fn starts_of(s: &[u8]) -> Starts
 // LK, TN, SG and MD.
 fn check_network(s: &[u8], starts: Starts) -> Report
     requires { HeaderFacts s.now × StartsOf s.now starts }
-    ensures { result ≡ networkFault s.now }
+    ensures { result ≡ network_fault s.now }
 {
     let links = header_record::links_of(s);
     let f = links::check_links(s, links);
@@ -123,7 +123,7 @@ fn check_network(s: &[u8], starts: Starts) -> Report
 
 // The layout of a certificate whose records up to the last GR are as they must be.
 fn lay_out(s: &[u8], starts: Starts, found: grids::Grids) -> Layout
-    requires { HeaderFacts s.now × StartsOf s.now starts × GridsLaid s.now (linksOf s.now) found.places found.«end» found.cells }
+    requires { HeaderFacts s.now × StartsOf s.now starts × GridsLaid s.now (links_of s.now) found.places found.«end» found.cells }
     ensures { LaidOut s.now result }
 {
     let links = header_record::links_of(s);
@@ -151,7 +151,7 @@ fn lay_out(s: &[u8], starts: Starts, found: grids::Grids) -> Layout
 // AR, EN and ZZ.
 fn check_tail(s: &[u8], layout: Layout) -> Report
     requires { LaidOut s.now layout }
-    ensures { result ≡ tailFault s.now }
+    ensures { result ≡ tail_fault s.now }
 {
     let f = arrivals::check_arrivals(s, layout.arrivals_start, layout.links, layout.boxes);
     if f.number != 0 {
@@ -177,7 +177,7 @@ fn check_tail(s: &[u8], layout: Layout) -> Report
 // From GR on.
 fn read_back(s: &[u8], starts: Starts) -> Reading
     requires { HeaderFacts s.now × StartsOf s.now starts }
-    ensures { ReadAs s.now (backFault s.now) result }
+    ensures { ReadAs s.now (back_fault s.now) result }
 {
     let found = grids::check_grids(s, starts.grids, header_record::links_of(s));
     let f = found.report;

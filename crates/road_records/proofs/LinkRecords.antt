@@ -6,45 +6,45 @@ use mathlib.Core.Path.{◌≡◌, sym, ◌∙◌}
 use native.Mathlib.Omega.{arith}
 use lib.ListN.{length}
 use Rattle.certificate.specs.declared.Report.{Report}
-use Rattle.certificate.specs.Octets.{u16At}
+use Rattle.certificate.specs.Octets.{u16_at}
 use Rattle.certificate.specs.Checks.{refusal, fine, need, or_else, marked, opened}
-use Rattle.certificate.specs.Layout.{maxLinkSize, remembers, link_size, link_at, flow_of, startFlowOf}
-use Rattle.certificate.specs.Records.{linkOk, linkFault}
-use Rattle.certificate.proofs.KindSizes.{link-least}
+use Rattle.certificate.specs.Layout.{max_link_size, remembers, link_size, link_at, flow_of, start_flow_of}
+use Rattle.certificate.specs.Records.{link_ok, link_fault}
+use Rattle.certificate.proofs.KindSizes.{link_least}
 use Rattle.octets.proofs.Cases.{first, opened-whole}
 
 -- in H2 the record of a link is the longest
-pub link-long : (s : List ℕ) {memory : Bool} → memory ≡ remembers s → memory ≡ true → maxLinkSize ≡ link_size s
+pub link_long : (s : List ℕ) {memory : Bool} → memory ≡ remembers s → memory ≡ true → max_link_size ≡ link_size s
 unfolding link_size
-link-long s is some = rw (sym is ∙ some)
+link_long s is some = rw (sym is ∙ some)
 
 module _ (s : List ℕ) (l : ℕ) {o : ℕ} (here : o ≡ link_at s l) where
   -- f is what the opening of the record answers
   module _ {size : ℕ} (sized : size ≡ link_size s) {mark : Bool} {f : Report} (bears : mark ≡ marked s o 76 75) (opening : f ≡ opened s o mark size) where
-    pub link-unopened : (f.number ≡ 0 → ⊥) → f ≡ linkFault s l
-    unfolding linkFault
-    link-unopened bad = first f _ _ (opening ∙ rw (bears, here, sized)) bad
+    pub link_unopened : (f.number ≡ 0 → ⊥) → f ≡ link_fault s l
+    unfolding link_fault
+    link_unopened bad = first f _ _ (opening ∙ rw (bears, here, sized)) bad
 
-    pub link-whole : f.number ≡ 0 → link_at s l + link_size s ≤ length s
-    link-whole z =
-        let least = link-least s in
+    pub link_whole : f.number ≡ 0 → link_at s l + link_size s ≤ length s
+    link_whole z =
+        let least = link_least s in
         let inside = opened-whole s o mark size (omega arith) opening z in
         omega arith
 
-    pub link-result : {ok : Bool} {r : Report} → ok ≡ linkOk s l → r ≡ or_else f (need ok (refusal 4 o) fine) → r ≡ linkFault s l
-    unfolding linkFault
-    link-result p q = q ∙ rw (opening, bears, p, here, sized)
+    pub link_result : {ok : Bool} {r : Report} → ok ≡ link_ok s l → r ≡ or_else f (need ok (refusal 4 o) fine) → r ≡ link_fault s l
+    unfolding link_fault
+    link_result p q = q ∙ rw (opening, bears, p, here, sized)
 
   -- in H2 its last field is the start flow
   module _ {memory : Bool} (is : memory ≡ remembers s) (some : memory ≡ true) where
-    pub start-inside : link_at s l + link_size s ≤ length s → o + 12 + 1 < length s
-    start-inside whole = let long = link-long s is some in omega arith
+    pub start_inside : link_at s l + link_size s ≤ length s → o + 12 + 1 < length s
+    start_inside whole = let long = link_long s is some in omega arith
 
-    pub start-held : {v : ℕ} → v ≡ u16At s (o + 12) → v ≡ startFlowOf s l
-    unfolding startFlowOf
-    start-held p = p ∙ rw (sym is ∙ some, here)
+    pub start_held : {v : ℕ} → v ≡ u16_at s (o + 12) → v ≡ start_flow_of s l
+    unfolding start_flow_of
+    start_held p = p ∙ rw (sym is ∙ some, here)
 
 -- in HD that is the flow
-pub start-flow : (s : List ℕ) (l : ℕ) {memory : Bool} {v : ℕ} → memory ≡ remembers s → memory ≡ false → v ≡ flow_of s l → v ≡ startFlowOf s l
-unfolding startFlowOf
-start-flow s l is none p = p ∙ rw (sym is ∙ none)
+pub start_flow : (s : List ℕ) (l : ℕ) {memory : Bool} {v : ℕ} → memory ≡ remembers s → memory ≡ false → v ≡ flow_of s l → v ≡ start_flow_of s l
+unfolding start_flow_of
+start_flow s l is none p = p ∙ rw (sym is ∙ none)

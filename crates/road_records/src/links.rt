@@ -1,16 +1,16 @@
 // LK: one record a link, its fields and its tests. The kind of the certificate says whether it ends with a start flow.
 ghost use Rattle.std.specs.Prelude.{◌≡◌, ◌+◌, ◌<◌, ◌≤◌, length};
-ghost use Rattle.certificate.specs.Octets.{byte_at, u16At};
-ghost use Rattle.certificate.specs.Checks.{firstBad};
-ghost use Rattle.certificate.specs.Layout.{plainLinkSize, maxLinkSize, remembers, link_at, link_size, tailOf, head_of, cap_of, flow_of, safeOf, goalOf, startFlowOf};
-ghost use Rattle.certificate.specs.Records.{linkOk, linkFault};
+ghost use Rattle.certificate.specs.Octets.{byte_at, u16_at};
+ghost use Rattle.certificate.specs.Checks.{first_bad};
+ghost use Rattle.certificate.specs.Layout.{plain_link_size, max_link_size, remembers, link_at, link_size, tail_of, head_of, cap_of, flow_of, safe_of, goal_of, start_flow_of};
+ghost use Rattle.certificate.specs.Records.{link_ok, link_fault};
 
 use certificate::{Report, limits};
 
 // The size of a link's record, by whether the kind is H2 or H3.
 pub fn size_for(s: &[u8], memory: bool) -> usize
     requires { memory ≡ remembers s.now }
-    ensures { (result ≡ link_size s.now) × (plainLinkSize ≤ result) × (result ≤ maxLinkSize) }
+    ensures { (result ≡ link_size s.now) × (plain_link_size ≤ result) × (result ≤ max_link_size) }
 {
     if memory {
         return limits::MAX_LINK_SIZE;
@@ -20,7 +20,7 @@ pub fn size_for(s: &[u8], memory: bool) -> usize
 
 // Where the record of link l stands, by the size of one.
 fn place_for(s: &[u8], size: usize, l: usize) -> usize
-    requires { (l < 256) × (size ≡ link_size s.now) × (size ≤ maxLinkSize) }
+    requires { (l < 256) × (size ≡ link_size s.now) × (size ≤ max_link_size) }
     ensures { (result ≡ link_at s.now l) × (result ≤ 4000) }
 {
     limits::HEADER_SIZE + size * l
@@ -44,14 +44,14 @@ fn link_byte(s: &[u8], l: usize, k: usize) -> usize
 
 fn link_u16(s: &[u8], l: usize, k: usize) -> usize
     requires { (l < 256) × (k < 256) }
-    ensures { (result ≡ u16At s.now (link_at s.now l + k)) × (result < 65536) }
+    ensures { (result ≡ u16_at s.now (link_at s.now l + k)) × (result < 65536) }
 {
     octets::u16_at(s, link_at(s, l) + k)
 }
 
 // The same where the link is there whole: no test.
 fn link_byte_within(s: &[u8], l: usize, k: usize) -> usize
-    requires { (l < 256) × (k < plainLinkSize) × (link_at s.now l + link_size s.now ≤ length s.now) }
+    requires { (l < 256) × (k < plain_link_size) × (link_at s.now l + link_size s.now ≤ length s.now) }
     ensures { (result ≡ byte_at s.now (link_at s.now l + k)) × (result < 256) }
 {
     let size = size_for(s, header_record::has_memory_within(s));
@@ -59,8 +59,8 @@ fn link_byte_within(s: &[u8], l: usize, k: usize) -> usize
 }
 
 fn link_u16_within(s: &[u8], l: usize, k: usize) -> usize
-    requires { (l < 256) × (k + 1 < plainLinkSize) × (link_at s.now l + link_size s.now ≤ length s.now) }
-    ensures { (result ≡ u16At s.now (link_at s.now l + k)) × (result < 65536) }
+    requires { (l < 256) × (k + 1 < plain_link_size) × (link_at s.now l + link_size s.now ≤ length s.now) }
+    ensures { (result ≡ u16_at s.now (link_at s.now l + k)) × (result < 65536) }
 {
     let size = size_for(s, header_record::has_memory_within(s));
     octets::u16_within(s, place_for(s, size, l) + k)
@@ -68,7 +68,7 @@ fn link_u16_within(s: &[u8], l: usize, k: usize) -> usize
 
 pub fn tail_of(s: &[u8], l: usize) -> usize
     requires { l < 256 }
-    ensures { (result ≡ tailOf s.now l) × (result < 256) }
+    ensures { (result ≡ tail_of s.now l) × (result < 256) }
 {
     link_byte(s, l, 2)
 }
@@ -96,14 +96,14 @@ pub fn flow_of(s: &[u8], l: usize) -> usize
 
 pub fn safe_of(s: &[u8], l: usize) -> usize
     requires { l < 256 }
-    ensures { (result ≡ safeOf s.now l) × (result < 65536) }
+    ensures { (result ≡ safe_of s.now l) × (result < 65536) }
 {
     link_u16(s, l, 8)
 }
 
 pub fn goal_of(s: &[u8], l: usize) -> usize
     requires { l < 256 }
-    ensures { (result ≡ goalOf s.now l) × (result < 65536) }
+    ensures { (result ≡ goal_of s.now l) × (result < 65536) }
 {
     link_u16(s, l, 10)
 }
@@ -111,7 +111,7 @@ pub fn goal_of(s: &[u8], l: usize) -> usize
 // In H2 and H3 the most that leaves in the first green step; in HD the flow.
 pub fn start_flow_of(s: &[u8], l: usize) -> usize
     requires { l < 256 }
-    ensures { (result ≡ startFlowOf s.now l) × (result < 65536) }
+    ensures { (result ≡ start_flow_of s.now l) × (result < 65536) }
 {
     if header_record::has_memory(s) {
         return link_u16(s, l, 12);
@@ -136,7 +136,7 @@ pub fn flow_within(s: &[u8], l: usize) -> usize
 
 fn start_flow_within(s: &[u8], l: usize) -> usize
     requires { (l < 256) × (link_at s.now l + link_size s.now ≤ length s.now) }
-    ensures { (result ≡ startFlowOf s.now l) × (result < 65536) }
+    ensures { (result ≡ start_flow_of s.now l) × (result < 65536) }
 {
     if header_record::has_memory_within(s) {
         let o = place_for(s, limits::MAX_LINK_SIZE, l);
@@ -148,7 +148,7 @@ fn start_flow_within(s: &[u8], l: usize) -> usize
 // The fields of a link that is there whole are as they must be.
 fn link_ok(s: &[u8], l: usize) -> bool
     requires { (l < 256) × (link_at s.now l + link_size s.now ≤ length s.now) }
-    ensures { result ≡ linkOk s.now l }
+    ensures { result ≡ link_ok s.now l }
 {
     let head = link_byte_within(s, l, 3);
     let cap = cap_within(s, l);
@@ -169,7 +169,7 @@ fn link_ok(s: &[u8], l: usize) -> bool
 
 fn check_link(s: &[u8], l: usize) -> Report
     requires { l < 256 }
-    ensures { result ≡ linkFault s.now l }
+    ensures { result ≡ link_fault s.now l }
 {
     let size = size_for(s, header_record::has_memory(s));
     let o = place_for(s, size, l);
@@ -182,7 +182,7 @@ fn check_link(s: &[u8], l: usize) -> Report
 
 pub fn check_links(s: &[u8], links: usize) -> Report
     requires { links < 256 }
-    ensures { result ≡ firstBad links (linkFault s.now) }
+    ensures { result ≡ first_bad links (link_fault s.now) }
 {
     for l in 0..links {
         let f = check_link(s, l);

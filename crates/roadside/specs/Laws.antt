@@ -2,40 +2,40 @@
 use Rattle.std.specs.Prelude.{ℕ, ◌*◌, ◌%◌, List, [], ◌∷◌, ◌≡◌, length}
 use Rattle.certificate.specs.Checks.{refusal}
 use Rattle.certificate.specs.Octets.{byte_at}
-use Rattle.certificate.specs.Layout.{linksOf}
+use Rattle.certificate.specs.Layout.{links_of}
 use Rattle.certificate.specs.Entries.{DifferInRanks}
 use Rattle.controller.specs.declared.Controller.{Controller}
-use Rattle.controller.specs.State.{freshState, stored}
-use Rattle.controller.specs.Query.{refused, queryOf}
+use Rattle.controller.specs.State.{fresh_state, stored}
+use Rattle.controller.specs.Query.{refused, query_of}
 use Rattle.controller.specs.Laws.{HoldsCertificate}
-use Rattle.packed_state.specs.State.{stateModeAt, stateSize}
-use Rattle.held_state.specs.Held.{loadReport, loadOverflows, shownFor, displayOf}
-use Rattle.answer_words.specs.Words.{displayWord, verdictWord, DisplayParts, VerdictParts, queueSize, queuesIn}
-use Rattle.roadside.specs.Calls.{LoadCall, QueryCall, polledFor, PollCall}
+use Rattle.packed_state.specs.State.{state_mode_at, state_size}
+use Rattle.held_state.specs.Held.{load_report, load_overflows, shown_for, display_of}
+use Rattle.answer_words.specs.Words.{display_word, verdict_word, DisplayParts, VerdictParts, queue_size, queues_in}
+use Rattle.roadside.specs.Calls.{LoadCall, QueryCall, polled_for, PollCall}
 
 -- the parts of an answer's number are those of the report, the signal and the green byte, or of the verdict, whatever state and bytes are given
 abbrev pub PollWord : Type 0
-PollWord = (state p : List ℕ) → DisplayParts (displayWord (displayOf (polledFor state p))) (displayOf (polledFor state p))
+PollWord = (state p : List ℕ) → DisplayParts (display_word (display_of (polled_for state p))) (display_of (polled_for state p))
 
 abbrev pub QueryWord : Type 0
 QueryWord =
     (state queues : List ℕ) (scale : ℕ)
-    → DisplayParts (displayWord (displayOf (shownFor state queues scale))) (displayOf (shownFor state queues scale))
+    → DisplayParts (display_word (display_of (shown_for state queues scale))) (display_of (shown_for state queues scale))
 
 abbrev pub LoadWord : Type 0
 LoadWord =
     (state s : List ℕ)
-    → VerdictParts (verdictWord (loadReport state s) (loadOverflows state s)) (loadReport state s) (loadOverflows state s)
+    → VerdictParts (verdict_word (load_report state s) (load_overflows state s)) (load_report state s) (load_overflows state s)
 
 -- a state's slice of any other length gets 18 from a poll too (held_state `OtherLengths` has the other calls)
 abbrev pub PollOtherLength : Type 0
-PollOtherLength = (state p : List ℕ) → (length state ≡ stateSize → ⊥) → polledFor state p ≡ refused freshState (refusal 18 0)
+PollOtherLength = (state p : List ℕ) → (length state ≡ state_size → ⊥) → polled_for state p ≡ refused fresh_state (refusal 18 0)
 
 -- a number of bytes that is not four a link gets 16, where a certificate is held
 abbrev pub QueueBytes : Type 0
 QueueBytes =
-    (c : Controller) (b : List ℕ) (scale : ℕ) → HoldsCertificate c → (length b ≡ queueSize * linksOf (stored c) → ⊥)
-    → queryOf c (queuesIn b) scale ≡ refused c (refusal 16 0)
+    (c : Controller) (b : List ℕ) (scale : ℕ) → HoldsCertificate c → (length b ≡ queue_size * links_of (stored c) → ⊥)
+    → query_of c (queues_in b) scale ≡ refused c (refusal 16 0)
 
 -- Certificates that differ only in ranks (document 02, 7/14), in what the cabinet's program sees: the answers to its calls, and the lent state's bytes.
 
@@ -66,4 +66,4 @@ abbrev pub RanksUnseenLent : Type 0
 RanksUnseenLent =
     (s t state state' other other' : List ℕ) (v w : ℕ) → LoadCall s state state' v → LoadCall t other other' w → v % 256 ≡ 0 → w % 256 ≡ 0
     → DifferInRanks s t → (ks : List CabinetCall) (last last' rs qs : List ℕ) → AllMade ks state' last rs → AllMade ks other' last' qs
-    → (rs ≡ qs) × (byte_at last stateModeAt ≡ byte_at last' stateModeAt)
+    → (rs ≡ qs) × (byte_at last state_mode_at ≡ byte_at last' state_mode_at)

@@ -1,7 +1,7 @@
 // The roadside unit: the calls of a street cabinet's C program, on numbers and byte slices. Each is thin: it lends what it is lent to a proved call
 // and answers one number of 64 bits, so that a refusal changes no lent byte.
 ghost use Rattle.held_state.specs.Held.{Displayed};
-ghost use Rattle.roadside.specs.Calls.{FreshCall, LoadCall, QueryCall, polledFor, PollCall};
+ghost use Rattle.roadside.specs.Calls.{FreshCall, LoadCall, QueryCall, polled_for, PollCall};
 
 use held_state::Display;
 
@@ -35,7 +35,7 @@ pub extern "C" fn roadside_query(state: &mut [u8], queues: &[u8], scale: u32) ->
 
 // The poll of a state that is lent as bytes. Any other length of the state gets 18, and a refusal leaves its bytes as they were.
 fn poll_held(state: &mut [u8], bytes: &[u8]) -> Display
-    ensures { Displayed (polledFor state.old bytes.now) state.old state.new result }
+    ensures { Displayed (polled_for state.old bytes.now) state.old state.new result }
 {
     if !packed_state::has_state_size(state) {
         return held_state::no_state();

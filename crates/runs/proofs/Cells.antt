@@ -4,15 +4,15 @@ use mathlib.Core.List.{List}
 use mathlib.Core.Path.{◌≡◌}
 use native.Mathlib.Nat.{le_trans, mul-le-mul_left, mul-le-mul_right, mul-lt-mul_of_pos_right, le_of_mul-le-mul_right, lt_of_mul-lt-mul_right}
 use native.Mathlib.Omega.{arith}
-use Rattle.certificate.specs.Layout.{linksOf}
+use Rattle.certificate.specs.Layout.{links_of}
 use Rattle.grid.specs.Intervals.{InInterval}
-use Rattle.grid.specs.Cells.{upperOf, InCell}
-use Rattle.grid.proofs.Edges.{at-most-upper}
+use Rattle.grid.specs.Cells.{upper_of, InCell}
+use Rattle.grid.proofs.Edges.{at_most_upper}
 
 -- where all upper edges of a cell are at most a bound, its queues are
-pub below-bound : {s : List ℕ} {c D : ℕ} {x : ℕ → ℕ} → InCell s c D x → (bound : ℕ → ℕ) → ((l : ℕ) → l < linksOf s → upperOf s c l ≤ bound l)
-    → (l : ℕ) → l < linksOf s → x l ≤ D * bound l
-below-bound {D} h bound edges l lt = le_trans (at-most-upper _ _ _ _ _ (h.holds l lt)) (mul-le-mul_left D (edges l lt))
+pub below_bound : {s : List ℕ} {c D : ℕ} {x : ℕ → ℕ} → InCell s c D x → (bound : ℕ → ℕ) → ((l : ℕ) → l < links_of s → upper_of s c l ≤ bound l)
+    → (l : ℕ) → l < links_of s → x l ≤ D * bound l
+below_bound {D} h bound edges l lt = le_trans (at_most_upper _ _ _ _ _ (h.holds l lt)) (mul-le-mul_left D (edges l lt))
 
 -- x over D and y over E, equal by cross products: a whole number's bound goes over from one to the other
 module _ (D E x y n : ℕ) (d : 1 ≤ D) (equal : y * D ≡ x * E) where
@@ -26,8 +26,8 @@ module _ (D E x y n : ℕ) (d : 1 ≤ D) (equal : y * D ≡ x * E) where
   below e h = let over : y * D < E * n * D = omega (arith, mul-lt-mul_of_pos_right h e) in lt_of_mul-lt-mul_right D over
 
 -- so equal queues lie in the same interval, and in the same cell
-pub same-interval : (s : List ℕ) {l i D E x y : ℕ} → 1 ≤ D → 1 ≤ E → y * D ≡ x * E → InInterval s l i D x → InInterval s l i E y
-same-interval s {D} {E} {x} {y} d e equal v =
+pub same_interval : (s : List ℕ) {l i D E x y : ℕ} → 1 ≤ D → 1 ≤ E → y * D ≡ x * E → InInterval s l i D x → InInterval s l i E y
+same_interval s {D} {E} {x} {y} d e equal v =
     record {
       exists = v.exists;
       lower = least D E x y _ d equal v.lower;
@@ -35,5 +35,5 @@ same-interval s {D} {E} {x} {y} d e equal v =
       cap = most D E x y _ d equal v.cap;
     }
 
-pub same-cell : (s : List ℕ) {c D E : ℕ} {x y : ℕ → ℕ} → 1 ≤ D → 1 ≤ E → ((l : ℕ) → l < linksOf s → y l * D ≡ x l * E) → InCell s c D x → InCell s c E y
-same-cell s d e equal h = record { exists = h.exists; holds = λ l lt. same-interval s d e (equal l lt) (h.holds l lt) }
+pub same_cell : (s : List ℕ) {c D E : ℕ} {x y : ℕ → ℕ} → 1 ≤ D → 1 ≤ E → ((l : ℕ) → l < links_of s → y l * D ≡ x l * E) → InCell s c D x → InCell s c E y
+same_cell s d e equal h = record { exists = h.exists; holds = λ l lt. same_interval s d e (equal l lt) (h.holds l lt) }

@@ -1,8 +1,8 @@
 -- Demand 3: what every run of an accepted certificate keeps.
 use Rattle.std.specs.Prelude.{ℕ, ◌≤◌, true, false, List, ◌≡◌, length}
-use Rattle.certificate.specs.Layout.{takesTurns}
+use Rattle.certificate.specs.Layout.{takes_turns}
 use Rattle.runs.specs.Fractions.{Fraction}
-use Rattle.runs.specs.Runs.{RunState, Step, start, InForce, momentOf, Safe, ProperQueues, ProperSteps}
+use Rattle.runs.specs.Runs.{RunState, Step, start, InForce, moment_of, Safe, ProperQueues, ProperSteps}
 use Rattle.runs.specs.Goals.{GoalTimes, InTurn}
 
 -- what is kept at the moments of a run, the last of them n, where e is the first entry
@@ -12,13 +12,13 @@ pub record KeptAlong (s : List ℕ) (moment : ℕ → RunState) (n e : ℕ) : Ty
   -- at every moment no queue exceeds safe
   pub safe : (k : ℕ) → k ≤ n → Safe s (moment k)
   -- HD and H2: the goal times
-  pub times : takesTurns s ≡ false → GoalTimes s moment n e
+  pub times : takes_turns s ≡ false → GoalTimes s moment n e
   -- H3: the goals in turn
-  pub turns : takesTurns s ≡ true → InTurn s moment n
+  pub turns : takes_turns s ≡ true → InTurn s moment n
 
 -- what the run from r by a list of steps keeps
 abbrev pub Kept : List ℕ → RunState → List Step → ℕ → Type 0
-Kept s r steps e = KeptAlong s (momentOf s r steps) (length steps) e
+Kept s r steps e = KeptAlong s (moment_of s r steps) (length steps) e
 
 -- the run claim: every first mode, first queues whose cell is listed for it, and list of steps
 abbrev pub RunClaim : List ℕ → Type 0

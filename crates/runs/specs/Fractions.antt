@@ -6,8 +6,8 @@ pub record Fraction : Type 0 where
   pub den : ℕ
 
 -- the fraction for link l, 0 past the end of the list
-abbrev pub fractionAt : List Fraction → ℕ → Fraction
-fractionAt fs l = get_or fs l (record { num = 0; den = 1 })
+abbrev pub fraction_at : List Fraction → ℕ → Fraction
+fraction_at fs l = get_or fs l (record { num = 0; den = 1 })
 
 -- the fraction is at least the whole number n
 abbrev pub AtLeast : Fraction → ℕ → Type 0
@@ -23,7 +23,7 @@ scale_of [] = 1
 scale_of (f ∷ fs) = f.den * scale_of fs
 
 -- the fraction for link l, brought to that scale
-unfoldable pub overScale : List Fraction → ℕ → ℕ
-overScale [] l = 0
-overScale (f ∷ fs) zero = f.num * scale_of fs
-overScale (f ∷ fs) (suc l) = f.den * overScale fs l
+unfoldable pub over_scale : List Fraction → ℕ → ℕ
+over_scale [] l = 0
+over_scale (f ∷ fs) zero = f.num * scale_of fs
+over_scale (f ∷ fs) (suc l) = f.den * over_scale fs l

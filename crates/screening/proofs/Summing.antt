@@ -11,17 +11,17 @@ use lib.Dec.{eqb}
 use lib.ListN.{length, get_or, set, replicate, length-set, get_or-replicate}
 use lib.Seq.{get_or-set_same, get_or-set_other}
 use Rattle.certificate.specs.Loops.{pick, sum_to}
-use Rattle.certificate.proofs.Loops.{sum-next}
+use Rattle.certificate.proofs.Loops.{sum_next}
 use Rattle.screening.specs.NetworkParts.{into}
 
 -- a sum goes on unchanged where the terms are 0
-pub sum-flat : (m n : ℕ) (f : ℕ → ℕ) → m ≤ n → ((t : ℕ) → m ≤ t → t < n → f t ≡ 0) → sum_to n f ≡ sum_to m f
+pub sum_flat : (m n : ℕ) (f : ℕ → ℕ) → m ≤ n → ((t : ℕ) → m ≤ t → t < n → f t ≡ 0) → sum_to n f ≡ sum_to m f
 unfolding sum_to
-sum-flat m zero f h none = let e : m ≡ 0 = omega arith in rw e refl
-sum-flat m (suc n) f h none =
+sum_flat m zero f h none = let e : m ≡ 0 = omega arith in rw e refl
+sum_flat m (suc n) f h none =
     ⊎_elim
     (λ (e : m ≡ suc n). rw e refl)
-    (λ (l : m < suc n). omega (arith, none n (omega arith) (omega arith), sum-flat m n f (omega arith) (λ t a c. none t a (omega arith))))
+    (λ (l : m < suc n). omega (arith, none n (omega arith) (omega arith), sum_flat m n f (omega arith) (λ t a c. none t a (omega arith))))
     (eq-or-lt_of_le h)
 
 -- and two sums grow alike where their terms agree
@@ -41,12 +41,12 @@ pub record Summed (n : ℕ) (to f a b : ℕ → ℕ) (most more t : ℕ) (sums :
   pub fits : (l : ℕ) → l < n → get_or sums l 0 ≤ most + t * more
 
 -- one turn more: v is added to the sum of link k
-pub summed-more : (n : ℕ) (to f a b : ℕ → ℕ) (most more t : ℕ) (sums : List ℕ) (k v : ℕ) → Summed n to f a b most more t sums → k < n → k ≡ to t → v ≡ f t → v ≤ more
+pub summed_more : (n : ℕ) (to f a b : ℕ → ℕ) (most more t : ℕ) (sums : List ℕ) (k v : ℕ) → Summed n to f a b most more t sums → k < n → k ≡ to t → v ≡ f t → v ≤ more
     → Summed n to f a b most more (t + 1) (set sums k (get_or sums k 0 + v))
-summed-more n to f a b most more t sums k v S hk ek ev hv =
+summed_more n to f a b most more t sums k v S hk ek ev hv =
     record {
       long = simp length-set S.long;
-      at = λ l h. rw sum-next (omega (arith, S.at l h, adds l (eqb k l) refl));
+      at = λ l h. rw sum_next (omega (arith, S.at l h, adds l (eqb k l) refl));
       fits = λ l h. rw add-mul (omega (arith, S.fits l h, adds l (eqb k l) refl, at_most l (eqb (to t) l)));
     }
   where
@@ -64,9 +64,9 @@ summed-more n to f a b most more t sums k v S hk ek ev hv =
     at_most l false = omega arith
 
 -- nothing is added yet to eight zeros
-pub summed-zeros : (n : ℕ) (to f : ℕ → ℕ) (more : ℕ) → n ≤ 8 → Summed n to f (λ _. 0) (λ _. 0) 0 more 0 (replicate 8 0)
+pub summed_zeros : (n : ℕ) (to f : ℕ → ℕ) (more : ℕ) → n ≤ 8 → Summed n to f (λ _. 0) (λ _. 0) 0 more 0 (replicate 8 0)
 unfolding sum_to
-summed-zeros n to f more h = record { long = h; at = λ l lt. omega (arith, zero-at l lt); fits = λ l lt. omega (arith, zero-at l lt) }
+summed_zeros n to f more h = record { long = h; at = λ l lt. omega (arith, zero_at l lt); fits = λ l lt. omega (arith, zero_at l lt) }
   where
-    zero-at : (l : ℕ) → l < n → ◌≡◌ {A = ℕ} (get_or (replicate 8 0) l 0) 0
-    zero-at l lt = get_or-replicate {A = ℕ} 8 l 0 0 (omega arith)
+    zero_at : (l : ℕ) → l < n → ◌≡◌ {A = ℕ} (get_or (replicate 8 0) l 0) 0
+    zero_at l lt = get_or-replicate {A = ℕ} 8 l 0 0 (omega arith)

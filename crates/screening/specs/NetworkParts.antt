@@ -2,16 +2,16 @@
 use Rattle.std.specs.Prelude.{ℕ, ◌≤◌, List, ◌≡◌, eqb}
 use Rattle.certificate.specs.Loops.{pick}
 use Rattle.certificate.specs.Facts.{Readable}
-use Rattle.certificate.specs.Layout.{linksOf, turnsOf, turnsStart}
+use Rattle.certificate.specs.Layout.{links_of, turns_of, turns_start}
 use Rattle.octets.specs.Bounds.{start_bound}
 
 -- s is readable, its records of turns begin at `start`, and it has so many turns and links
 pub record NetworkAt (s : List ℕ) (start turns links : ℕ) : Type 0 where
   pub readable : Readable s
-  pub start_is : start ≡ turnsStart s
-  pub start-most : start ≤ start_bound
-  pub turns-is : turns ≡ turnsOf s
-  pub links-is : links ≡ linksOf s
+  pub start_is : start ≡ turns_start s
+  pub start_most : start ≤ start_bound
+  pub turns_is : turns ≡ turns_of s
+  pub links_is : links ≡ links_of s
 
 -- what turn t adds to link l, where it leads to link `to t` and carries f t
 abbrev pub into : (ℕ → ℕ) → (ℕ → ℕ) → ℕ → ℕ → ℕ

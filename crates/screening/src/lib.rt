@@ -1,12 +1,12 @@
 // All tests that come before 12: reading, then conditions 10 and 11.
 ghost use Rattle.reading.specs.ReadingResults.{ReadAs};
-ghost use Rattle.network.specs.Conditions.{screeningOf};
+ghost use Rattle.network.specs.Conditions.{screening_of};
 
 mod conditions;
 
 // Screens any bytes: refusals 1 to 11, 22, 23 and 24, or success and the layout.
 pub fn screen(s: &[u8]) -> reading::Reading
-    ensures { ReadAs s.now (screeningOf s.now) result }
+    ensures { ReadAs s.now (screening_of s.now) result }
 {
     let found = reading::read(s);
     let f = found.report;

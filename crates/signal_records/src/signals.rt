@@ -1,9 +1,9 @@
 // SG: one record a signal, the byte of its green links. `start` is where the records of signals begin.
 ghost use Rattle.std.specs.Prelude.{◌≡◌, ◌+◌, ◌*◌, ◌<◌, ◌≤◌, ◌^◌};
 ghost use Rattle.certificate.specs.Octets.{bit_of};
-ghost use Rattle.certificate.specs.Checks.{firstBad};
-ghost use Rattle.certificate.specs.Layout.{maxLinks, linksOf, signalSize, signalsStart, greenByteOf};
-ghost use Rattle.certificate.specs.Records.{signalOk, signalFault};
+ghost use Rattle.certificate.specs.Checks.{first_bad};
+ghost use Rattle.certificate.specs.Layout.{max_links, links_of, signal_size, signals_start, green_byte_of};
+ghost use Rattle.certificate.specs.Records.{signal_ok, signal_fault};
 ghost use Rattle.octets.specs.Bounds.{start_bound};
 
 use certificate::{Report, limits};
@@ -11,21 +11,21 @@ use certificate::{Report, limits};
 // Where the record of signal g stands.
 pub fn signal_at(start: usize, g: usize) -> usize
     requires { (g < 256) × (start ≤ start_bound) }
-    ensures { (result ≡ start + signalSize * g) × (result ≤ 101000) }
+    ensures { (result ≡ start + signal_size * g) × (result ≤ 101000) }
 {
     start + limits::SIGNAL_SIZE * g
 }
 
 pub fn green_byte_of(s: &[u8], start: usize, g: usize) -> usize
-    requires { (g < 256) × (start ≤ start_bound) × (start ≡ signalsStart s.now) }
-    ensures { (result ≡ greenByteOf s.now g) × (result < 256) }
+    requires { (g < 256) × (start ≤ start_bound) × (start ≡ signals_start s.now) }
+    ensures { (result ≡ green_byte_of s.now g) × (result < 256) }
 {
     octets::byte_at(s, signal_at(start, g) + 2)
 }
 
 // Whether link l is green, by a signal's byte.
 pub fn is_green(byte: usize, l: usize) -> bool
-    requires { l < maxLinks }
+    requires { l < max_links }
     ensures { result ≡ bit_of byte l }
 {
     (byte >> l) % 2 == 1
@@ -40,8 +40,8 @@ fn power(n: usize) -> usize
 }
 
 fn check_signal(s: &[u8], start: usize, links: usize, g: usize) -> Report
-    requires { (g < 256) × (start ≤ start_bound) × (start ≡ signalsStart s.now) × (links ≤ maxLinks) × (links ≡ linksOf s.now) }
-    ensures { result ≡ signalFault s.now g }
+    requires { (g < 256) × (start ≤ start_bound) × (start ≡ signals_start s.now) × (links ≤ max_links) × (links ≡ links_of s.now) }
+    ensures { result ≡ signal_fault s.now g }
 {
     let o = signal_at(start, g);
     let opening = octets::check_opened(s, o, octets::marked_as(s, o, 83, 71), limits::SIGNAL_SIZE);
@@ -49,8 +49,8 @@ fn check_signal(s: &[u8], start: usize, links: usize, g: usize) -> Report
 }
 
 pub fn check_signals(s: &[u8], start: usize, links: usize, signals: usize) -> Report
-    requires { (signals < 256) × (start ≤ start_bound) × (start ≡ signalsStart s.now) × (links ≤ maxLinks) × (links ≡ linksOf s.now) }
-    ensures { result ≡ firstBad signals (signalFault s.now) }
+    requires { (signals < 256) × (start ≤ start_bound) × (start ≡ signals_start s.now) × (links ≤ max_links) × (links ≡ links_of s.now) }
+    ensures { result ≡ first_bad signals (signal_fault s.now) }
 {
     for g in 0..signals {
         let f = check_signal(s, start, links, g);

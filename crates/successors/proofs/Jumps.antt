@@ -9,16 +9,16 @@ use borrow.Author.Tests.{le-leb, lt-leb}
 use lib.ListN.{get_or}
 use lib.Dec.{leb}
 use Rattle.certificate.specs.Loops.{every}
-use Rattle.certificate.specs.Layout.{linksOf}
+use Rattle.certificate.specs.Layout.{links_of}
 use Rattle.certificate.proofs.Loops.{every-each, each-every}
-use Rattle.certificate.proofs.Tests.{both-and}
-use Rattle.grid.specs.Cells.{intervalIn}
-use Rattle.successors.specs.Ranges.{in_range, inRanges}
+use Rattle.certificate.proofs.Tests.{both_and}
+use Rattle.grid.specs.Cells.{interval_in}
+use Rattle.successors.specs.Ranges.{in_range, in_ranges}
 use Rattle.successors.proofs.Ranging.{below_or}
 
 -- a test that fails at one index does not hold of all
-every-fails : (n : ℕ) (p : ℕ → Bool) (k : ℕ) → k < n → p k ≡ false → every n p ≡ false
-every-fails n p k lt e = go (every n p) refl
+every_fails : (n : ℕ) (p : ℕ → Bool) (k : ℕ) → k < n → p k ≡ false → every n p ≡ false
+every_fails n p k lt e = go (every n p) refl
   where
     go : (b : Bool) → every n p ≡ b → b ≡ false
     go true h = absurd (false≢true (sym e ∙ every-each n p h k lt))
@@ -32,26 +32,26 @@ and_right true b e = e
 and_right false b e = refl
 
 module _ (s first last : List ℕ) where
-  pub too-low : (c l : ℕ) → l < linksOf s → intervalIn s c l < get_or first l 0 → inRanges s first last c ≡ false
-  unfolding inRanges
-  too-low c l lt h = every-fails (linksOf s) _ l lt (and_left _ _ (lt-leb _ _ h))
+  pub too_low : (c l : ℕ) → l < links_of s → interval_in s c l < get_or first l 0 → in_ranges s first last c ≡ false
+  unfolding in_ranges
+  too_low c l lt h = every_fails (links_of s) _ l lt (and_left _ _ (lt-leb _ _ h))
 
-  pub too-high : (c l : ℕ) → l < linksOf s → get_or last l 0 < intervalIn s c l → inRanges s first last c ≡ false
-  unfolding inRanges
-  too-high c l lt h = every-fails (linksOf s) _ l lt (and_right (leb (get_or first l 0) (intervalIn s c l)) _ (lt-leb _ _ h))
+  pub too_high : (c l : ℕ) → l < links_of s → get_or last l 0 < interval_in s c l → in_ranges s first last c ≡ false
+  unfolding in_ranges
+  too_high c l lt h = every_fails (links_of s) _ l lt (and_right (leb (get_or first l 0) (interval_in s c l)) _ (lt-leb _ _ h))
 
-  pub all_in : (c : ℕ) → ((l : ℕ) → l < linksOf s → in_range first last l (intervalIn s c l) ≡ true) → inRanges s first last c ≡ true
-  unfolding inRanges
-  all_in c h = each-every (linksOf s) _ h
+  pub all_in : (c : ℕ) → ((l : ℕ) → l < links_of s → in_range first last l (interval_in s c l) ≡ true) → in_ranges s first last c ≡ true
+  unfolding in_ranges
+  all_in c h = each-every (links_of s) _ h
 
   -- two bounds
-  pub bounds-in : (c l : ℕ) → get_or first l 0 ≤ intervalIn s c l → intervalIn s c l ≤ get_or last l 0 → in_range first last l (intervalIn s c l) ≡ true
-  bounds-in c l a b = both-and _ _ (le-leb _ _ a) (le-leb _ _ b)
+  pub bounds_in : (c l : ℕ) → get_or first l 0 ≤ interval_in s c l → interval_in s c l ≤ get_or last l 0 → in_range first last l (interval_in s c l) ≡ true
+  bounds_in c l a b = both_and _ _ (le-leb _ _ a) (le-leb _ _ b)
 
   -- where the range of a link is empty, no cell does
-  pub none_in : (l : ℕ) → l < linksOf s → get_or last l 0 < get_or first l 0 → (c : ℕ) → inRanges s first last c ≡ false
+  pub none_in : (l : ℕ) → l < links_of s → get_or last l 0 < get_or first l 0 → (c : ℕ) → in_ranges s first last c ≡ false
   none_in l lt h c =
       ⊎_elim
-      (λ a. too-low c l lt a)
-      (λ (b : get_or first l 0 ≤ intervalIn s c l). too-high c l lt (omega arith))
-      (below_or (intervalIn s c l) (get_or first l 0))
+      (λ a. too_low c l lt a)
+      (λ (b : get_or first l 0 ≤ interval_in s c l). too_high c l lt (omega arith))
+      (below_or (interval_in s c l) (get_or first l 0))

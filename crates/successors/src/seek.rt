@@ -1,10 +1,10 @@
 // Which cells lie in the ranges: their intervals lie in the range first .. last of every link. They come in runs of consecutive cells: the
 // intervals of the range of the run link, and all those of the links after it.
 ghost use Rattle.std.specs.Prelude.{◌≡◌, ◌<◌};
-ghost use Rattle.certificate.specs.Layout.{linksOf, cells_of};
+ghost use Rattle.certificate.specs.Layout.{links_of, cells_of};
 ghost use Rattle.certificate.specs.Facts.{Readable};
 ghost use Rattle.cell_tables.specs.Tables.{CountsOf, DigitsOf};
-ghost use Rattle.successors.specs.Ranges.{Bounded, FullAfter, inRanges};
+ghost use Rattle.successors.specs.Ranges.{Bounded, FullAfter, in_ranges};
 
 use cell_tables::digits as cells;
 use certificate::limits;
@@ -17,7 +17,7 @@ pub fn run_link<'a>(
     last: &'a [usize; limits::MAX_LINKS],
     links: usize,
 ) -> usize
-    requires { Readable s.now × CountsOf s.now counts.now × (links ≡ linksOf s.now) × Bounded s.now first.now last.now }
+    requires { Readable s.now × CountsOf s.now counts.now × (links ≡ links_of s.now) × Bounded s.now first.now last.now }
     ensures { FullAfter s.now first.now last.now result }
 {
     let mut k = links - 1;
@@ -42,8 +42,8 @@ pub fn in_ranges<'a>(
     links: usize,
     cell: usize,
 ) -> bool
-    requires { Readable s.now × DigitsOf s.now digits.now × (links ≡ linksOf s.now) × (cell < cells_of s.now) }
-    ensures { result ≡ inRanges s.now first.now last.now cell }
+    requires { Readable s.now × DigitsOf s.now digits.now × (links ≡ links_of s.now) × (cell < cells_of s.now) }
+    ensures { result ≡ in_ranges s.now first.now last.now cell }
 {
     for l in 0..links {
         let i = cells::interval_in(s, digits, cell, l);

@@ -4,7 +4,7 @@
 // interval of a link, the rows of later links outside.
 ghost use Rattle.std.specs.Prelude.{◌≡◌, ℕ, ◌+◌, ◌*◌, ◌-◌, ◌<◌, ◌≤◌, length, get_or};
 ghost use Rattle.certificate.specs.Facts.{Readable};
-ghost use Rattle.certificate.specs.Layout.{maxIntervals, maxCells, linksOf};
+ghost use Rattle.certificate.specs.Layout.{max_intervals, max_cells, links_of};
 ghost use Rattle.cell_tables.specs.Tables.{CountsOf};
 ghost use Rattle.successors.specs.Ranges.{Bounded, RunsOf};
 
@@ -22,7 +22,7 @@ pub struct Runs {
 
 // The number so far of a place of the list, with one link more.
 fn longer(number: u16, count: u16, i: u16) -> u16
-    requires { number * count + i ≤ maxCells }
+    requires { number * count + i ≤ max_cells }
     ensures { result ≡ number * count + i }
 {
     queues::with_link(
@@ -34,8 +34,8 @@ fn longer(number: u16, count: u16, i: u16) -> u16
 
 // A row behind the list: its first n numbers with interval i of a link more.
 fn row(starts: &mut [u16], n: usize, at: usize, count: u16, i: u16)
-    requires { (length starts.old ≡ maxCells) × (n ≤ at) × (at + n ≤ maxCells) × ((m : ℕ) → m < n → get_or starts.old m 0 * count + i ≤ maxCells) }
-    ensures { (length starts.new ≡ maxCells) × ((m : ℕ) → m < n → get_or starts.new (at + m) 0 ≡ get_or starts.old m 0 * count + i) × ((m : ℕ) → m < at → get_or starts.new m 0 ≡ get_or starts.old m 0) }
+    requires { (length starts.old ≡ max_cells) × (n ≤ at) × (at + n ≤ max_cells) × ((m : ℕ) → m < n → get_or starts.old m 0 * count + i ≤ max_cells) }
+    ensures { (length starts.new ≡ max_cells) × ((m : ℕ) → m < n → get_or starts.new (at + m) 0 ≡ get_or starts.old m 0 * count + i) × ((m : ℕ) → m < at → get_or starts.new m 0 ≡ get_or starts.old m 0) }
 {
     for m in 0..n {
         starts[at + m] = longer(starts[m], count, i);
@@ -44,8 +44,8 @@ fn row(starts: &mut [u16], n: usize, at: usize, count: u16, i: u16)
 
 // The same in place of the first n numbers.
 fn first_row(starts: &mut [u16], n: usize, count: u16, i: u16)
-    requires { (length starts.old ≡ maxCells) × (n ≤ maxCells) × ((m : ℕ) → m < n → get_or starts.old m 0 * count + i ≤ maxCells) }
-    ensures { (length starts.new ≡ maxCells) × ((m : ℕ) → m < n → get_or starts.new m 0 ≡ get_or starts.old m 0 * count + i) × ((m : ℕ) → n ≤ m → get_or starts.new m 0 ≡ get_or starts.old m 0) }
+    requires { (length starts.old ≡ max_cells) × (n ≤ max_cells) × ((m : ℕ) → m < n → get_or starts.old m 0 * count + i ≤ max_cells) }
+    ensures { (length starts.new ≡ max_cells) × ((m : ℕ) → m < n → get_or starts.new m 0 ≡ get_or starts.old m 0 * count + i) × ((m : ℕ) → n ≤ m → get_or starts.new m 0 ≡ get_or starts.old m 0) }
 {
     for m in 0..n {
         starts[m] = longer(starts[m], count, i);
@@ -54,8 +54,8 @@ fn first_row(starts: &mut [u16], n: usize, count: u16, i: u16)
 
 // The n numbers of the list with one link more, for its intervals from .. to: a row for each. The answer is how many they are.
 fn widen(starts: &mut [u16], n: usize, count: u16, from: usize, to: usize) -> usize
-    requires { (length starts.old ≡ maxCells) × (from ≤ to) × (to ≤ maxIntervals) × ((to + 1 - from) * n ≤ maxCells) × ((m : ℕ) → m < n → get_or starts.old m 0 * count + to ≤ maxCells) }
-    ensures { (length starts.new ≡ maxCells) × (result ≡ (to + 1 - from) * n) × ((j m : ℕ) → from ≤ j → j ≤ to → m < n → get_or starts.new ((j - from) * n + m) 0 ≡ get_or starts.old m 0 * count + j) }
+    requires { (length starts.old ≡ max_cells) × (from ≤ to) × (to ≤ max_intervals) × ((to + 1 - from) * n ≤ max_cells) × ((m : ℕ) → m < n → get_or starts.old m 0 * count + to ≤ max_cells) }
+    ensures { (length starts.new ≡ max_cells) × (result ≡ (to + 1 - from) * n) × ((j m : ℕ) → from ≤ j → j ≤ to → m < n → get_or starts.new ((j - from) * n + m) 0 ≡ get_or starts.old m 0 * count + j) }
 {
     let mut at = n;
     let mut i = from;
@@ -78,8 +78,8 @@ pub fn runs_of<'a>(
     links: usize,
     starts: &mut [u16],
 ) -> Runs
-    requires { Readable s.now × CountsOf s.now counts.now × (links ≡ linksOf s.now) × Bounded s.now first.now last.now × (length starts.old ≡ maxCells) }
-    ensures { (length starts.new ≡ maxCells) × RunsOf s.now first.now last.now starts.new result.count result.size }
+    requires { Readable s.now × CountsOf s.now counts.now × (links ≡ links_of s.now) × Bounded s.now first.now last.now × (length starts.old ≡ max_cells) }
+    ensures { (length starts.new ≡ max_cells) × RunsOf s.now first.now last.now starts.new result.count result.size }
 {
     let run = seek::run_link(s, counts, first, last, links);
     starts[0] = 0;

@@ -6,10 +6,10 @@ use native.Mathlib.Omega.{arith}
 use borrow.Author.Tests.{eqb-true, eqb-false, eq-eqb, ne_eqb, leb-true, le-leb}
 use lib.Dec.{leb, eqb}
 use Rattle.certificate.specs.Loops.{pick}
-use Rattle.network.specs.Flow.{leastTo}
-use Rattle.supply.specs.Supply.{TwoLeast, sentBy}
-use Rattle.supply.proofs.LeastNumbers.{least-in, least-same, least_start, least_more}
-use Rattle.network.proofs.Sending.{least-from, least-base, least_at}
+use Rattle.network.specs.Flow.{least_to}
+use Rattle.supply.specs.Supply.{TwoLeast, sent_by}
+use Rattle.supply.proofs.LeastNumbers.{least_in, least_same, least_start, least_more}
+use Rattle.network.proofs.Sending.{least_from, least_base, least_at}
 
 -- next where a is the least, else the least
 chosen : (a least next r : ℕ) → (a ≡ least → next ≡ r) → ((a ≡ least → ⊥) → least ≡ r) → pick (eqb a least) next least ≡ r
@@ -28,35 +28,35 @@ abbrev mixed : (ℕ → ℕ) → (ℕ → ℕ) → ℕ → ℕ → ℕ
 mixed near far t u = pick (eqb u t) (near u) (far u)
 
 pub two_none : (f : ℕ → ℕ) (from : ℕ) → TwoLeast f from from 1000000 1000000
-two_none f from = record { least-is = least_start from f 1000000; ordered = omega arith; others-is = λ t le lt. absurd (omega arith) }
+two_none f from = record { least_is = least_start from f 1000000; ordered = omega arith; others_is = λ t le lt. absurd (omega arith) }
 
-pub two-more : (f : ℕ → ℕ) (from end least next v least' next' : ℕ) → TwoLeast f from end least next → from ≤ end → v ≡ f end
+pub two_more : (f : ℕ → ℕ) (from end least next v least' next' : ℕ) → TwoLeast f from end least next → from ≤ end → v ≡ f end
     → least' ≡ min v least → next' ≡ min (max v least) next → TwoLeast f from (end + 1) least' next'
-two-more f from end least next v least' next' T le ev el en =
+two_more f from end least next v least' next' T le ev el en =
     record {
-      least-is = least_more from end f 1000000 least v least' T.least-is le ev el;
+      least_is = least_more from end f 1000000 least v least' T.least_is le ev el;
       ordered = omega (arith, T.ordered);
-      others-is = λ t ht lt. go t ht lt (eqb end t) refl;
+      others_is = λ t ht lt. go t ht lt (eqb end t) refl;
     }
   where
-    more : (t : ℕ) → leastTo (end + 1) (leb from) (but f t) 1000000 ≡ min (but f t end) (leastTo end (leb from) (but f t) 1000000)
-    more t = least-in end (leb from) (but f t) 1000000 (le-leb from end le)
+    more : (t : ℕ) → least_to (end + 1) (leb from) (but f t) 1000000 ≡ min (but f t end) (least_to end (leb from) (but f t) 1000000)
+    more t = least_in end (leb from) (but f t) 1000000 (le-leb from end le)
 
     go : (t : ℕ) → from ≤ t → t < end + 1 → (q : Bool) → eqb end t ≡ q
-        → pick (eqb (f t) least') next' least' ≡ leastTo (end + 1) (leb from) (but f t) 1000000
+        → pick (eqb (f t) least') next' least' ≡ least_to (end + 1) (leb from) (but f t) 1000000
     go t ht lt true q =
         let here : end ≡ t = eqb-true _ _ q in
         let new : v ≡ f t = rw (← here) ev in
-        let rest : leastTo end (leb from) (but f t) 1000000 ≡ least =
-        least-same end _ _ _ _ _ (λ u lu. refl) (λ u lu p. rw (ne_eqb u t (λ e. omega arith)) refl) ∙ sym T.least-is in
-        let all : leastTo (end + 1) (leb from) (but f t) 1000000 ≡ least = more t ∙ rw (q, rest) (omega (arith, T.ordered)) in
+        let rest : least_to end (leb from) (but f t) 1000000 ≡ least =
+        least_same end _ _ _ _ _ (λ u lu. refl) (λ u lu p. rw (ne_eqb u t (λ e. omega arith)) refl) ∙ sym T.least_is in
+        let all : least_to (end + 1) (leb from) (but f t) 1000000 ≡ least = more t ∙ rw (q, rest) (omega (arith, T.ordered)) in
         rw all (chosen (f t) least' next' least (λ e. omega (arith, T.ordered)) (λ e. omega (arith, T.ordered)))
     go t ht lt false q =
         let other : end ≡ t → ⊥ = eqb-false _ _ q in
         let before : t < end = omega arith in
-        let all : leastTo (end + 1) (leb from) (but f t) 1000000 ≡ min v (pick (eqb (f t) least) next least) = more t ∙ rw (q, ev, T.others-is t ht before) refl in
-        let low : leastTo end (leb from) f 1000000 ≤ f t = least_at end (leb from) f 1000000 t before (le-leb from t ht) in
-        let lowest : least ≤ f t = rw T.least-is low in
+        let all : least_to (end + 1) (leb from) (but f t) 1000000 ≡ min v (pick (eqb (f t) least) next least) = more t ∙ rw (q, ev, T.others_is t ht before) refl in
+        let low : least_to end (leb from) f 1000000 ≤ f t = least_at end (leb from) f 1000000 t before (le-leb from t ht) in
+        let lowest : least ≤ f t = rw T.least_is low in
         rw all (by (eqb (f t) least) refl lowest)
       where
         by : (q : Bool) → eqb (f t) least ≡ q → least ≤ f t → pick (eqb (f t) least') next' least' ≡ min v (pick q next least)
@@ -64,44 +64,44 @@ two-more f from end least next v least' next' T le ev el en =
         by false e h = let isnt : f t ≡ least → ⊥ = eqb-false _ _ e in chosen (f t) least' next' (min v least) (λ a. omega arith) (λ a. omega arith)
 
 -- numbers that agree have the same two
-pub two-same : (f g : ℕ → ℕ) (from end least next : ℕ) → TwoLeast f from end least next → ((t : ℕ) → from ≤ t → t < end → g t ≡ f t) → TwoLeast g from end least next
-two-same f g from end least next T same =
+pub two_same : (f g : ℕ → ℕ) (from end least next : ℕ) → TwoLeast f from end least next → ((t : ℕ) → from ≤ t → t < end → g t ≡ f t) → TwoLeast g from end least next
+two_same f g from end least next T same =
     record {
-      least-is = T.least-is ∙ sym (least-same end _ _ _ _ _ (λ t lt. refl) (λ t lt p. same t (leb-true _ _ p) lt));
+      least_is = T.least_is ∙ sym (least_same end _ _ _ _ _ (λ t lt. refl) (λ t lt p. same t (leb-true _ _ p) lt));
       ordered = T.ordered;
-      others-is = λ t ht lt. rw (same t ht lt) (T.others-is t ht lt ∙ sym (least-same end (leb from) (leb from) (but g t) (but f t) 1000000 (λ u lu. refl) (λ u lu p. rw (same u (leb-true _ _ p) lu) refl)));
+      others_is = λ t ht lt. rw (same t ht lt) (T.others_is t ht lt ∙ sym (least_same end (leb from) (leb from) (but g t) (but f t) 1000000 (λ u lu. refl) (λ u lu p. rw (same u (leb-true _ _ p) lu) refl)));
     }
 
 -- with its own supplies on all turns a link sends the least of them and of the most that it may send
-pub sent-least : (near : ℕ → ℕ) (from end least most : ℕ) → least ≡ leastTo end (leb from) near 1000000 → most ≤ 1000000
-    → min least most ≡ leastTo end (leb from) near most
-sent-least near from end least most e h =
-    let below : min least most ≤ leastTo end (leb from) near most =
-    least-from end _ _ _ _ (omega arith) (λ t lt p. omega (arith, least_at end (leb from) near 1000000 t lt p)) in
-    let above : leastTo end (leb from) near most ≤ leastTo end (leb from) near 1000000 =
-    least-from end _ _ _ _ (omega (arith, least-base end (leb from) near most)) (λ t lt p. least_at end (leb from) near most t lt p) in
-    omega (arith, below, above, least-base end (leb from) near most)
+pub sent_least : (near : ℕ → ℕ) (from end least most : ℕ) → least ≡ least_to end (leb from) near 1000000 → most ≤ 1000000
+    → min least most ≡ least_to end (leb from) near most
+sent_least near from end least most e h =
+    let below : min least most ≤ least_to end (leb from) near most =
+    least_from end _ _ _ _ (omega arith) (λ t lt p. omega (arith, least_at end (leb from) near 1000000 t lt p)) in
+    let above : least_to end (leb from) near most ≤ least_to end (leb from) near 1000000 =
+    least_from end _ _ _ _ (omega (arith, least_base end (leb from) near most)) (λ t lt p. least_at end (leb from) near most t lt p) in
+    omega (arith, below, above, least_base end (leb from) near most)
 
 -- with turn t's supply of near and the others' of far it sends the least of the one, of the least of the others, and of the most
-pub sent-two : (near far : ℕ → ℕ) (from end least next m most t r : ℕ) → TwoLeast far from end least next → m ≡ most → most ≤ 1000000 → from ≤ t → t < end
-    → r ≡ min (min (near t) (pick (eqb (far t) least) next least)) m → r ≡ sentBy near far from end most t
-sent-two near far from end least next m most t r T em h ht lt er =
-    let all : r ≡ min (min (near t) (leastTo end (leb from) (but far t) 1000000)) most = er ∙ rw (T.others-is t ht lt, em) refl in
-    omega (arith, below, own, rest, least-base end (leb from) (mixed near far t) most)
+pub sent_two : (near far : ℕ → ℕ) (from end least next m most t r : ℕ) → TwoLeast far from end least next → m ≡ most → most ≤ 1000000 → from ≤ t → t < end
+    → r ≡ min (min (near t) (pick (eqb (far t) least) next least)) m → r ≡ sent_by near far from end most t
+sent_two near far from end least next m most t r T em h ht lt er =
+    let all : r ≡ min (min (near t) (least_to end (leb from) (but far t) 1000000)) most = er ∙ rw (T.others_is t ht lt, em) refl in
+    omega (arith, below, own, rest, least_base end (leb from) (mixed near far t) most)
   where
-    own : leastTo end (leb from) (mixed near far t) most ≤ near t
+    own : least_to end (leb from) (mixed near far t) most ≤ near t
     own = rw (eq-eqb t t refl) at (least_at end (leb from) (mixed near far t) most t lt (le-leb from t ht))
 
-    rest : leastTo end (leb from) (mixed near far t) most ≤ leastTo end (leb from) (but far t) 1000000
-    rest = least-from end _ _ _ _ (omega (arith, least-base end (leb from) (mixed near far t) most)) (λ u lu p. go u lu p (eqb u t) refl)
+    rest : least_to end (leb from) (mixed near far t) most ≤ least_to end (leb from) (but far t) 1000000
+    rest = least_from end _ _ _ _ (omega (arith, least_base end (leb from) (mixed near far t) most)) (λ u lu p. go u lu p (eqb u t) refl)
       where
-        go : (u : ℕ) → u < end → leb from u ≡ true → (q : Bool) → eqb u t ≡ q → leastTo end (leb from) (mixed near far t) most ≤ pick q 1000000 (far u)
-        go u lu p true q = omega (arith, least-base end (leb from) (mixed near far t) most)
+        go : (u : ℕ) → u < end → leb from u ≡ true → (q : Bool) → eqb u t ≡ q → least_to end (leb from) (mixed near far t) most ≤ pick q 1000000 (far u)
+        go u lu p true q = omega (arith, least_base end (leb from) (mixed near far t) most)
         go u lu p false q = rw q at (least_at end (leb from) (mixed near far t) most u lu p)
 
-    below : min (min (near t) (leastTo end (leb from) (but far t) 1000000)) most ≤ leastTo end (leb from) (mixed near far t) most
-    below = least-from end _ _ _ _ (omega arith) (λ u lu p. go u lu p (eqb u t) refl)
+    below : min (min (near t) (least_to end (leb from) (but far t) 1000000)) most ≤ least_to end (leb from) (mixed near far t) most
+    below = least_from end _ _ _ _ (omega arith) (λ u lu p. go u lu p (eqb u t) refl)
       where
-        go : (u : ℕ) → u < end → leb from u ≡ true → (q : Bool) → eqb u t ≡ q → min (min (near t) (leastTo end (leb from) (but far t) 1000000)) most ≤ pick q (near u) (far u)
+        go : (u : ℕ) → u < end → leb from u ≡ true → (q : Bool) → eqb u t ≡ q → min (min (near t) (least_to end (leb from) (but far t) 1000000)) most ≤ pick q (near u) (far u)
         go u lu p true q = let here : u ≡ t = eqb-true _ _ q in rw here (omega arith)
-        go u lu p false q = let other : leastTo end (leb from) (but far t) 1000000 ≤ far u = rw q at (least_at end (leb from) (but far t) 1000000 u lu p) in omega arith
+        go u lu p false q = let other : least_to end (leb from) (but far t) 1000000 ≤ far u = rw q at (least_at end (leb from) (but far t) 1000000 u lu p) in omega arith

@@ -2,9 +2,9 @@
 // `lower` and `upper` have a queue for each link.
 ghost use Rattle.std.specs.Prelude.{◌≡◌, ◌+◌, ◌*◌, ◌<◌, ◌≤◌, min, max, leb, eqb, length};
 ghost use Rattle.certificate.specs.Loops.{pick, find};
-ghost use Rattle.certificate.specs.Layout.{maxTurns, link_size, link_at, linksOf, turnsOf, turnsStart, turnAt, turnSize, cap_of, fromOf, toOf};
+ghost use Rattle.certificate.specs.Layout.{max_turns, link_size, link_at, links_of, turns_of, turns_start, turn_at, turn_size, cap_of, from_of, to_of};
 ghost use Rattle.screening.specs.NetworkParts.{NetworkAt};
-ghost use Rattle.supply.specs.Supply.{at, FirstTurns, WithinCaps, supplyAt, Supplies, TwoLeast};
+ghost use Rattle.supply.specs.Supply.{at, FirstTurns, WithinCaps, supply_at, Supplies, TwoLeast};
 ghost use Rattle.octets.specs.Bounds.{start_bound};
 
 use certificate::limits;
@@ -38,8 +38,8 @@ pub struct Least {
 
 // The first turn from link j or a later one, and the number of turns where there is none.
 fn first_turn(s: &[u8], start: usize, turns: usize, j: usize) -> usize
-    requires { (start ≤ start_bound) × (start ≡ turnsStart s.now) × (turns < 256) × (turns ≡ turnsOf s.now) }
-    ensures { result ≡ find (turnsOf s.now) (λ t. leb j (fromOf s.now t)) }
+    requires { (start ≤ start_bound) × (start ≡ turns_start s.now) × (turns < 256) × (turns ≡ turns_of s.now) }
+    ensures { result ≡ find (turns_of s.now) (λ t. leb j (from_of s.now t)) }
 {
     for t in 0..turns {
         if j <= turns::from_of(s, start, t) {
@@ -51,7 +51,7 @@ fn first_turn(s: &[u8], start: usize, turns: usize, j: usize) -> usize
 
 // Where the turns of each link begin; the last element is where all end.
 pub fn first_turns(s: &[u8], start: usize, turns: usize) -> [usize; limits::MAX_LINKS + 1]
-    requires { (start ≤ start_bound) × (start ≡ turnsStart s.now) × (turns < 256) × (turns ≡ turnsOf s.now) }
+    requires { (start ≤ start_bound) × (start ≡ turns_start s.now) × (turns < 256) × (turns ≡ turns_of s.now) }
     ensures { FirstTurns s.now result }
 {
     let mut first = [0usize; limits::MAX_LINKS + 1];
@@ -69,8 +69,8 @@ fn rooms_of(
     lower: &[usize; limits::MAX_LINKS],
     upper: &[usize; limits::MAX_LINKS],
 ) -> Rooms
-    requires { (t < 256) × (start ≤ start_bound) × (start ≡ turnsStart s.now) × (toOf s.now t < 8) × (at lower.now (toOf s.now t) ≤ cap_of s.now (toOf s.now t)) × (at upper.now (toOf s.now t) ≤ cap_of s.now (toOf s.now t)) × (turnAt s.now t + turnSize ≤ length s.now) × (link_at s.now (toOf s.now t) + link_size s.now ≤ length s.now) }
-    ensures { (result.lower ≡ supplyAt s.now (at lower.now) t) × (result.upper ≡ supplyAt s.now (at upper.now) t) }
+    requires { (t < 256) × (start ≤ start_bound) × (start ≡ turns_start s.now) × (to_of s.now t < 8) × (at lower.now (to_of s.now t) ≤ cap_of s.now (to_of s.now t)) × (at upper.now (to_of s.now t) ≤ cap_of s.now (to_of s.now t)) × (turn_at s.now t + turn_size ≤ length s.now) × (link_at s.now (to_of s.now t) + link_size s.now ≤ length s.now) }
+    ensures { (result.lower ≡ supply_at s.now (at lower.now) t) × (result.upper ≡ supply_at s.now (at upper.now) t) }
 {
     let to = turns::to_within(s, start, t);
     let cap = links::cap_within(s, to);
@@ -113,9 +113,9 @@ pub fn supplies(
     by_lower: &mut [usize; limits::MAX_TURNS],
     by_upper: &mut [usize; limits::MAX_TURNS],
 ) -> Least
-    requires { NetworkAt s.now start (turnsOf s.now) (linksOf s.now) × (from ≤ end) × (end ≤ turnsOf s.now) × WithinCaps s.now lower.now × WithinCaps s.now upper.now × (length by_lower.old ≡ maxTurns) × (length by_upper.old ≡ maxTurns) }
+    requires { NetworkAt s.now start (turns_of s.now) (links_of s.now) × (from ≤ end) × (end ≤ turns_of s.now) × WithinCaps s.now lower.now × WithinCaps s.now upper.now × (length by_lower.old ≡ max_turns) × (length by_upper.old ≡ max_turns) }
     ensures { Supplies s.now (at lower.now) from end by_lower.new × Supplies s.now (at upper.now) from end by_upper.new
-        × TwoLeast (supplyAt s.now (at lower.now)) from end result.lower.least result.lower.next × TwoLeast (supplyAt s.now (at upper.now)) from end result.upper.least result.upper.next }
+        × TwoLeast (supply_at s.now (at lower.now)) from end result.lower.least result.lower.next × TwoLeast (supply_at s.now (at upper.now)) from end result.upper.least result.upper.next }
 {
     let mut lowest = Two {
         least: MOST_SENT,

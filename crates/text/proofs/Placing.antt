@@ -43,9 +43,9 @@ unfolding written
 length-written b at t h = rw (length-append, length-append, length-drop, length-take-le at b (omega arith)) (omega arith)
 
 -- a store right after a text
-pub written-snoc : (b : List ℕ) (at : ℕ) (t : List ℕ) (v : ℕ) → at + length t < length b
+pub written_snoc : (b : List ℕ) (at : ℕ) (t : List ℕ) (v : ℕ) → at + length t < length b
     → set (written b at t) (at + length t) v ≡ written b at (t ++ (v ∷ []))
-written-snoc b at t v h =
+written_snoc b at t v h =
     written_one (written b at t) (at + length t) v (rw (length-written b at t (omega arith)) h) ∙ written-append b at t (v ∷ []) (omega arith)
 
 -- the same from behind: the store first
@@ -62,7 +62,7 @@ pub word_more : (b : List ℕ) (at : ℕ) (word : List ℕ) (i : ℕ) → at + l
     → set (written b at (take i word)) (at + i) (get_or word i 0) ≡ written b at (take (i + 1) word)
 word_more b at word i h g =
     let long : length (take i word) ≡ i = length-take-le i word (omega arith) in
-    rw (add-one, take-suc word i 0 g, ← written-snoc b at (take i word) (get_or word i 0) (omega arith), long)
+    rw (add-one, take-suc word i 0 g, ← written_snoc b at (take i word) (get_or word i 0) (omega arith), long)
 
 module _ {b : List ℕ} {at : ℕ} (within : at ≤ length b) where
   -- a text put right after another
@@ -74,8 +74,8 @@ module _ {b : List ℕ} {at : ℕ} (within : at ≤ length b) where
       }
 
 -- a text in two parts fits: its first part does, and then its second
-pub room-first : {b t : List ℕ} {at : ℕ} (u : List ℕ) → Room b at (t ++ u) → Room b at t
-room-first {b} {t} u h = record { fits = omega (arith, length-append t u, h.fits) }
+pub room_first : {b t : List ℕ} {at : ℕ} (u : List ℕ) → Room b at (t ++ u) → Room b at t
+room_first {b} {t} u h = record { fits = omega (arith, length-append t u, h.fits) }
 
 -- text T goes to a place of b₀; b is the buffer in between, where the rest of it is still to go to p
 pub record Rest (b₀ : List ℕ) (at : ℕ) (T : List ℕ) (b : List ℕ) (p : ℕ) (rest : List ℕ) : Type 0 where
@@ -84,13 +84,13 @@ pub record Rest (b₀ : List ℕ) (at : ℕ) (T : List ℕ) (b : List ℕ) (p : 
   pub bytes : written b p rest ≡ written b₀ at T
   pub place : p + length rest ≡ at + length T
 
-pub rest-start : {b T : List ℕ} {at : ℕ} → Room b at T → Rest b at T b at T
-rest-start h = record { room = h; same = refl; bytes = refl; place = refl }
+pub rest_start : {b T : List ℕ} {at : ℕ} → Room b at T → Rest b at T b at T
+rest_start h = record { room = h; same = refl; bytes = refl; place = refl }
 
 module _ {b₀ T b b₁ : List ℕ} {at p q : ℕ} where
   -- the first part of the rest is put
-  pub rest-next : {t u : List ℕ} → Rest b₀ at T b p (t ++ u) → Put b p t b₁ q → length b₁ ≡ length b → Rest b₀ at T b₁ q u
-  rest-next {t} {u} r w same =
+  pub rest_next : {t u : List ℕ} → Rest b₀ at T b p (t ++ u) → Put b p t b₁ q → length b₁ ≡ length b → Rest b₀ at T b₁ q u
+  rest_next {t} {u} r w same =
       let long = length-append t u in
       record {
         room = record { fits = omega (arith, r.room.fits, w.place) };
@@ -100,17 +100,17 @@ module _ {b₀ T b b₁ : List ℕ} {at p q : ℕ} where
       }
 
   -- the last part is
-  pub rest-last : {t : List ℕ} → Rest b₀ at T b p t → Put b p t b₁ q → Put b₀ at T b₁ q
-  rest-last r w = record { bytes = w.bytes ∙ r.bytes; place = w.place ∙ r.place }
+  pub rest_last : {t : List ℕ} → Rest b₀ at T b p t → Put b p t b₁ q → Put b₀ at T b₁ q
+  rest_last r w = record { bytes = w.bytes ∙ r.bytes; place = w.place ∙ r.place }
 
 -- nothing is left
-pub rest-done : {b₀ T b : List ℕ} {at p : ℕ} → Rest b₀ at T b p [] → Put b₀ at T b p
-rest-done {b = b} {p = p} r = record { bytes = sym (written_none b p) ∙ r.bytes; place = omega (arith, r.place) }
+pub rest_done : {b₀ T b : List ℕ} {at p : ℕ} → Rest b₀ at T b p [] → Put b₀ at T b p
+rest_done {b = b} {p = p} r = record { bytes = sym (written_none b p) ∙ r.bytes; place = omega (arith, r.place) }
 
 -- a byte put there by a store
 pub put_byte : {b : List ℕ} {at : ℕ} (v : ℕ) → Room b at (v ∷ []) → Put b at (v ∷ []) (set b at v) (at + 1)
 put_byte {b} {at} v h = record { bytes = written_one b at v (omega arith); place = refl }
 
 -- nothing put
-pub put-none : (b : List ℕ) (at : ℕ) → Put b at [] b at
-put-none b at = record { bytes = sym (written_none b at); place = omega arith }
+pub put_none : (b : List ℕ) (at : ℕ) → Put b at [] b at
+put_none b at = record { bytes = sym (written_none b at); place = omega arith }

@@ -1,7 +1,7 @@
 // Words and numbers in decimal, put into a lent buffer at a place. Each function answers the place after what it wrote.
 ghost use Rattle.std.specs.Prelude.{◌≡◌, [], ◌∷◌, ◌++◌, cond, ◌+◌, ◌*◌, ◌<◌, ◌≤◌, length};
 ghost use Rattle.listing_text.specs.Text.{decimal};
-ghost use Rattle.text.specs.NumberLines.{numbersLine};
+ghost use Rattle.text.specs.NumberLines.{numbers_line};
 ghost use Rattle.text.specs.TextPut.{Room, Put};
 
 pub fn put_word(buffer: &mut [u8], at: usize, word: &[u8]) -> usize
@@ -82,8 +82,8 @@ fn separator(another: bool) -> u8
 
 // A line of numbers, one space apart.
 pub fn put_numbers(buffer: &mut [u8], at: usize, numbers: &[u32]) -> usize
-    requires { Room buffer.old at (numbersLine numbers.now) }
-    ensures { Put buffer.old at (numbersLine numbers.now) buffer.new result }
+    requires { Room buffer.old at (numbers_line numbers.now) }
+    ensures { Put buffer.old at (numbers_line numbers.now) buffer.new result }
 {
     let mut next = at;
     let mut i = 0;
@@ -98,7 +98,7 @@ pub fn put_numbers(buffer: &mut [u8], at: usize, numbers: &[u32]) -> usize
 // How long that line is.
 pub fn numbers_length(numbers: &[u32]) -> usize
     requires { length numbers.now ≤ 5 }
-    ensures { (result ≡ length (numbersLine numbers.now)) × (result ≤ 11 * length numbers.now) }
+    ensures { (result ≡ length (numbers_line numbers.now)) × (result ≤ 11 * length numbers.now) }
 {
     let mut total = 0;
     let mut i = 0;

@@ -1,10 +1,10 @@
 // TN: one record a turn, its fields and its tests. `start` is where the records of turns begin.
 ghost use Rattle.std.specs.Prelude.{true, ◌≡◌, ◌+◌, ◌*◌, ◌<◌, ◌≤◌, length};
 ghost use Rattle.certificate.specs.Octets.{byte_at};
-ghost use Rattle.certificate.specs.Checks.{firstBad};
-ghost use Rattle.certificate.specs.Layout.{linksOf, turnsStart, turnAt, turnSize, fromOf, toOf, share_of, pullOf};
-ghost use Rattle.turn_records.specs.ShareTotals.{SharesBefore, turnFits};
-ghost use Rattle.certificate.specs.Records.{turnAscends, shareTotal, turnOk, turnFault};
+ghost use Rattle.certificate.specs.Checks.{first_bad};
+ghost use Rattle.certificate.specs.Layout.{links_of, turns_start, turn_at, turn_size, from_of, to_of, share_of, pull_of};
+ghost use Rattle.turn_records.specs.ShareTotals.{SharesBefore, turn_fits};
+ghost use Rattle.certificate.specs.Records.{turn_ascends, share_total, turn_ok, turn_fault};
 ghost use Rattle.octets.specs.Bounds.{start_bound};
 
 use crate::pairs;
@@ -14,87 +14,87 @@ use road_records::links;
 // Where the record of turn t stands.
 pub fn turn_at(start: usize, t: usize) -> usize
     requires { (t < 256) × (start ≤ start_bound) }
-    ensures { (result ≡ start + turnSize * t) × (result ≤ 102000) }
+    ensures { (result ≡ start + turn_size * t) × (result ≤ 102000) }
 {
     start + limits::TURN_SIZE * t
 }
 
 // The byte at offset k of the record of turn t; and where the turn is there whole, with no test.
 fn turn_byte(s: &[u8], start: usize, t: usize, k: usize) -> usize
-    requires { (t < 256) × (k < 256) × (start ≤ start_bound) × (start ≡ turnsStart s.now) }
-    ensures { (result ≡ byte_at s.now (turnAt s.now t + k)) × (result < 256) }
+    requires { (t < 256) × (k < 256) × (start ≤ start_bound) × (start ≡ turns_start s.now) }
+    ensures { (result ≡ byte_at s.now (turn_at s.now t + k)) × (result < 256) }
 {
     octets::byte_at(s, turn_at(start, t) + k)
 }
 
 fn turn_byte_within(s: &[u8], start: usize, t: usize, k: usize) -> usize
-    requires { (t < 256) × (k < turnSize) × (start ≤ start_bound) × (start ≡ turnsStart s.now) × (turnAt s.now t + turnSize ≤ length s.now) }
-    ensures { (result ≡ byte_at s.now (turnAt s.now t + k)) × (result < 256) }
+    requires { (t < 256) × (k < turn_size) × (start ≤ start_bound) × (start ≡ turns_start s.now) × (turn_at s.now t + turn_size ≤ length s.now) }
+    ensures { (result ≡ byte_at s.now (turn_at s.now t + k)) × (result < 256) }
 {
     octets::byte_within(s, turn_at(start, t) + k)
 }
 
 pub fn from_of(s: &[u8], start: usize, t: usize) -> usize
-    requires { (t < 256) × (start ≤ start_bound) × (start ≡ turnsStart s.now) }
-    ensures { (result ≡ fromOf s.now t) × (result < 256) }
+    requires { (t < 256) × (start ≤ start_bound) × (start ≡ turns_start s.now) }
+    ensures { (result ≡ from_of s.now t) × (result < 256) }
 {
     turn_byte(s, start, t, 2)
 }
 
 pub fn to_of(s: &[u8], start: usize, t: usize) -> usize
-    requires { (t < 256) × (start ≤ start_bound) × (start ≡ turnsStart s.now) }
-    ensures { (result ≡ toOf s.now t) × (result < 256) }
+    requires { (t < 256) × (start ≤ start_bound) × (start ≡ turns_start s.now) }
+    ensures { (result ≡ to_of s.now t) × (result < 256) }
 {
     turn_byte(s, start, t, 3)
 }
 
 fn share_of(s: &[u8], start: usize, t: usize) -> usize
-    requires { (t < 256) × (start ≤ start_bound) × (start ≡ turnsStart s.now) }
+    requires { (t < 256) × (start ≤ start_bound) × (start ≡ turns_start s.now) }
     ensures { (result ≡ share_of s.now t) × (result < 256) }
 {
     turn_byte(s, start, t, 4)
 }
 
 pub fn pull_of(s: &[u8], start: usize, t: usize) -> usize
-    requires { (t < 256) × (start ≤ start_bound) × (start ≡ turnsStart s.now) }
-    ensures { (result ≡ pullOf s.now t) × (result < 65536) }
+    requires { (t < 256) × (start ≤ start_bound) × (start ≡ turns_start s.now) }
+    ensures { (result ≡ pull_of s.now t) × (result < 65536) }
 {
     octets::u16_at(s, turn_at(start, t) + 5)
 }
 
 // The same fields of a turn that is there whole: no test.
 pub fn from_within(s: &[u8], start: usize, t: usize) -> usize
-    requires { (t < 256) × (start ≤ start_bound) × (start ≡ turnsStart s.now) × (turnAt s.now t + turnSize ≤ length s.now) }
-    ensures { (result ≡ fromOf s.now t) × (result < 256) }
+    requires { (t < 256) × (start ≤ start_bound) × (start ≡ turns_start s.now) × (turn_at s.now t + turn_size ≤ length s.now) }
+    ensures { (result ≡ from_of s.now t) × (result < 256) }
 {
     turn_byte_within(s, start, t, 2)
 }
 
 pub fn to_within(s: &[u8], start: usize, t: usize) -> usize
-    requires { (t < 256) × (start ≤ start_bound) × (start ≡ turnsStart s.now) × (turnAt s.now t + turnSize ≤ length s.now) }
-    ensures { (result ≡ toOf s.now t) × (result < 256) }
+    requires { (t < 256) × (start ≤ start_bound) × (start ≡ turns_start s.now) × (turn_at s.now t + turn_size ≤ length s.now) }
+    ensures { (result ≡ to_of s.now t) × (result < 256) }
 {
     turn_byte_within(s, start, t, 3)
 }
 
 pub fn share_within(s: &[u8], start: usize, t: usize) -> usize
-    requires { (t < 256) × (start ≤ start_bound) × (start ≡ turnsStart s.now) × (turnAt s.now t + turnSize ≤ length s.now) }
+    requires { (t < 256) × (start ≤ start_bound) × (start ≡ turns_start s.now) × (turn_at s.now t + turn_size ≤ length s.now) }
     ensures { (result ≡ share_of s.now t) × (result < 256) }
 {
     turn_byte_within(s, start, t, 4)
 }
 
 pub fn pull_within(s: &[u8], start: usize, t: usize) -> usize
-    requires { (t < 256) × (start ≤ start_bound) × (start ≡ turnsStart s.now) × (turnAt s.now t + turnSize ≤ length s.now) }
-    ensures { (result ≡ pullOf s.now t) × (result < 65536) }
+    requires { (t < 256) × (start ≤ start_bound) × (start ≡ turns_start s.now) × (turn_at s.now t + turn_size ≤ length s.now) }
+    ensures { (result ≡ pull_of s.now t) × (result < 65536) }
 {
     octets::u16_within(s, turn_at(start, t) + 5)
 }
 
 // The pair of turn t is above that of the turn before it.
 fn turn_ascends(s: &[u8], start: usize, t: usize) -> bool
-    requires { (t < 256) × (start ≤ start_bound) × (start ≡ turnsStart s.now) }
-    ensures { result ≡ turnAscends s.now t }
+    requires { (t < 256) × (start ≤ start_bound) × (start ≡ turns_start s.now) }
+    ensures { result ≡ turn_ascends s.now t }
 {
     if t == 0 {
         return true;
@@ -107,8 +107,8 @@ fn turn_ascends(s: &[u8], start: usize, t: usize) -> bool
 // What the shares from the link of turn t total up to it, where `before` is that total up to the turn before.
 // Pairs ascend, so the turns of a link stand together.
 fn share_total(s: &[u8], start: usize, t: usize, before: usize) -> usize
-    requires { (t < 256) × (start ≤ start_bound) × (start ≡ turnsStart s.now) × SharesBefore s.now t before }
-    ensures { turnAscends s.now t ≡ true → result ≡ shareTotal s.now t }
+    requires { (t < 256) × (start ≤ start_bound) × (start ≡ turns_start s.now) × SharesBefore s.now t before }
+    ensures { turn_ascends s.now t ≡ true → result ≡ share_total s.now t }
 {
     let share = share_of(s, start, t);
     if t == 0 {
@@ -122,8 +122,8 @@ fn share_total(s: &[u8], start: usize, t: usize, before: usize) -> usize
 
 // The tests of a turn that do not look at other turns.
 fn turn_fits(s: &[u8], start: usize, links: usize, t: usize) -> bool
-    requires { (t < 256) × (start ≤ start_bound) × (start ≡ turnsStart s.now) × (links ≡ linksOf s.now) }
-    ensures { result ≡ turnFits s.now t }
+    requires { (t < 256) × (start ≤ start_bound) × (start ≡ turns_start s.now) × (links ≡ links_of s.now) }
+    ensures { result ≡ turn_fits s.now t }
 {
     let from = from_of(s, start, t);
     let to = to_of(s, start, t);
@@ -139,17 +139,17 @@ fn turn_fits(s: &[u8], start: usize, links: usize, t: usize) -> bool
 }
 
 fn turn_ok(s: &[u8], start: usize, links: usize, t: usize, total: usize) -> bool
-    requires { (t < 256) × (start ≤ start_bound) × (start ≡ turnsStart s.now) × (links ≡ linksOf s.now)
-        × (turnAscends s.now t ≡ true → total ≡ shareTotal s.now t) }
-    ensures { result ≡ turnOk s.now t }
+    requires { (t < 256) × (start ≤ start_bound) × (start ≡ turns_start s.now) × (links ≡ links_of s.now)
+        × (turn_ascends s.now t ≡ true → total ≡ share_total s.now t) }
+    ensures { result ≡ turn_ok s.now t }
 {
     turn_fits(s, start, links, t) & turn_ascends(s, start, t) & (total <= limits::MAX_SHARE)
 }
 
 fn check_turn(s: &[u8], start: usize, links: usize, t: usize, total: usize) -> Report
-    requires { (t < 256) × (start ≤ start_bound) × (start ≡ turnsStart s.now) × (links ≡ linksOf s.now)
-        × (turnAscends s.now t ≡ true → total ≡ shareTotal s.now t) }
-    ensures { result ≡ turnFault s.now t }
+    requires { (t < 256) × (start ≤ start_bound) × (start ≡ turns_start s.now) × (links ≡ links_of s.now)
+        × (turn_ascends s.now t ≡ true → total ≡ share_total s.now t) }
+    ensures { result ≡ turn_fault s.now t }
 {
     let o = turn_at(start, t);
     let opening = octets::check_opened(s, o, octets::marked_as(s, o, 84, 78), limits::TURN_SIZE);
@@ -157,8 +157,8 @@ fn check_turn(s: &[u8], start: usize, links: usize, t: usize, total: usize) -> R
 }
 
 pub fn check_turns(s: &[u8], start: usize, links: usize, turns: usize) -> Report
-    requires { (turns < 256) × (start ≤ start_bound) × (start ≡ turnsStart s.now) × (links ≡ linksOf s.now) }
-    ensures { result ≡ firstBad turns (turnFault s.now) }
+    requires { (turns < 256) × (start ≤ start_bound) × (start ≡ turns_start s.now) × (links ≡ links_of s.now) }
+    ensures { result ≡ first_bad turns (turn_fault s.now) }
 {
     let mut total = 0;
     for t in 0..turns {

@@ -1,19 +1,19 @@
 // The verdict of any bytes: all tests before 12, then every entry in order; and how many entries may turn arrivals away.
 ghost use Rattle.std.specs.Prelude.{◌≡◌, ◌+◌, ◌*◌, ◌<◌, ◌≤◌, length};
 ghost use Rattle.certificate.specs.Loops.{pick};
-ghost use Rattle.certificate.specs.Layout.{maxBoxes, maxModes, maxCells, entriesOf, rank_of, boxesOf, cells_of};
+ghost use Rattle.certificate.specs.Layout.{max_boxes, max_modes, max_cells, entries_of, rank_of, boxes_of, cells_of};
 ghost use Rattle.certificate.specs.Facts.{Readable};
 ghost use Rattle.reading.specs.ReadingResults.{LaidOut, ReadAs};
 ghost use Rattle.network.specs.Laws.{Screened};
 ghost use Rattle.supply.specs.Supply.{FirstTurns};
 ghost use Rattle.cell_tables.specs.Tables.{DigitsOf};
 ghost use Rattle.rank_tables.specs.Index.{RanksOf};
-ghost use Rattle.judging.specs.EntryTests.{standingFault, judgingFrom};
+ghost use Rattle.judging.specs.EntryTests.{standing_fault, judging_from};
 ghost use Rattle.entry_standing.specs.Where.{UpperEdges};
 ghost use Rattle.entry_setup.specs.Tables.{TablesOf};
-ghost use Rattle.verdict.specs.Entries.{entryAlone, JudgedAs};
-ghost use Rattle.judging.specs.Verdict.{verdictOf};
-ghost use Rattle.judging.specs.Overflow.{entryOverflows, overflowsOf};
+ghost use Rattle.verdict.specs.Entries.{entry_alone, JudgedAs};
+ghost use Rattle.judging.specs.Verdict.{verdict_of};
+ghost use Rattle.judging.specs.Overflow.{entry_overflows, overflows_of};
 
 use cell_tables::{digits as cells, tables};
 use certificate::{Report, limits};
@@ -54,8 +54,8 @@ fn standing(
     upper: &[usize; limits::MAX_LINKS],
     count: u32,
 ) -> Report
-    requires { Readable s.now × LaidOut s.now layout × (e < entriesOf s.now) × (rank ≡ rank_of s.now e) × UpperEdges s.now e upper.now }
-    ensures { result ≡ standingFault s.now e count }
+    requires { Readable s.now × LaidOut s.now layout × (e < entries_of s.now) × (rank ≡ rank_of s.now e) × UpperEdges s.now e upper.now }
+    ensures { result ≡ standing_fault s.now e count }
 {
     let at = entry_standing::Where {
         links: layout.links,
@@ -81,8 +81,8 @@ fn judge_entry(
     e: usize,
     count: u32,
 ) -> search::Searched
-    requires { LaidOut s.now layout × TablesOf s.now layout.links counts.now caps.now edges.now arrivals.now × FirstTurns s.now first_turns.now × RanksOf s.now ranks.now × (e < entriesOf s.now) × (count ≤ maxBoxes * maxCells * e) × DigitsOf s.now digits.now × (length runs.old ≡ maxCells) }
-    ensures { (result.report ≡ entryAlone s.now e count) × (result.report.count ≤ maxBoxes * maxCells * (e + 1)) × (length runs.new ≡ maxCells) × (result.report.number ≡ 0 → result.over ≡ entryOverflows s.now e) }
+    requires { LaidOut s.now layout × TablesOf s.now layout.links counts.now caps.now edges.now arrivals.now × FirstTurns s.now first_turns.now × RanksOf s.now ranks.now × (e < entries_of s.now) × (count ≤ max_boxes * max_cells * e) × DigitsOf s.now digits.now × (length runs.old ≡ max_cells) }
+    ensures { (result.report ≡ entry_alone s.now e count) × (result.report.count ≤ max_boxes * max_cells * (e + 1)) × (length runs.new ≡ max_cells) × (result.report.number ≡ 0 → result.over ≡ entry_overflows s.now e) }
 {
     let task = entry::task_of(s, layout, e);
     let c = entries::cell_of(s, layout.entries_start, e);
@@ -148,8 +148,8 @@ fn judge_entries(
     arrivals: &[usize; amounts::ARRIVALS],
     runs: &mut [u16],
 ) -> Verdict
-    requires { LaidOut s.now layout × TablesOf s.now layout.links counts.now caps.now edges.now arrivals.now × FirstTurns s.now first_turns.now × RanksOf s.now ranks.now × DigitsOf s.now digits.now × (length runs.old ≡ maxCells) }
-    ensures { JudgedAs s.now (judgingFrom s.now 0 0) result }
+    requires { LaidOut s.now layout × TablesOf s.now layout.links counts.now caps.now edges.now arrivals.now × FirstTurns s.now first_turns.now × RanksOf s.now ranks.now × DigitsOf s.now digits.now × (length runs.old ≡ max_cells) }
+    ensures { JudgedAs s.now (judging_from s.now 0 0) result }
 {
     let entries = layout.entries;
     let mut count: u32 = 0;
@@ -182,7 +182,7 @@ fn judge_entries(
 
 // Fills the table of ranks, by way of the index.
 fn rank_table(s: &[u8], layout: Layout, ranks: &mut [u32])
-    requires { Readable s.now × LaidOut s.now layout × (length ranks.old ≡ maxModes * maxCells) }
+    requires { Readable s.now × LaidOut s.now layout × (length ranks.old ≡ max_modes * max_cells) }
     ensures { RanksOf s.now ranks.new }
 {
     let start = layout.entries_start;
@@ -194,7 +194,7 @@ fn rank_table(s: &[u8], layout: Layout, ranks: &mut [u32])
 // Makes the tables, once, and judges by them.
 fn judge_screened(s: &[u8], layout: Layout) -> Verdict
     requires { Screened s.now × LaidOut s.now layout }
-    ensures { JudgedAs s.now (judgingFrom s.now 0 0) result }
+    ensures { JudgedAs s.now (judging_from s.now 0 0) result }
 {
     let links = layout.links;
     let places = layout.grids;
@@ -224,7 +224,7 @@ fn judge_screened(s: &[u8], layout: Layout) -> Verdict
 
 // The verdict, and the layout where it is no refusal.
 pub fn judge_with_layout(s: &[u8]) -> Judged
-    ensures { ReadAs s.now (verdictOf s.now) result.reading × (result.overflows ≡ overflowsOf s.now) }
+    ensures { ReadAs s.now (verdict_of s.now) result.reading × (result.overflows ≡ overflows_of s.now) }
 {
     let found = screening::screen(s);
     let f = found.report;
@@ -252,7 +252,7 @@ pub fn judge_with_layout(s: &[u8]) -> Judged
 
 // The verdict.
 pub fn judge(s: &[u8]) -> Verdict
-    ensures { (result.report ≡ verdictOf s.now) × (result.overflows ≡ overflowsOf s.now) × (result.report.count ≤ entriesOf s.now * boxesOf s.now * cells_of s.now) × (result.overflows ≤ entriesOf s.now) }
+    ensures { (result.report ≡ verdict_of s.now) × (result.overflows ≡ overflows_of s.now) × (result.report.count ≤ entries_of s.now * boxes_of s.now * cells_of s.now) × (result.overflows ≤ entries_of s.now) }
 {
     let judged = judge_with_layout(s);
     let found = judged.reading;

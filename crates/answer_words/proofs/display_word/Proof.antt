@@ -1,7 +1,7 @@
 -- `answer_words::display_word` meets its contract. Assumes nothing.
 use borrow.Author.Rules.{rules}
 use native.Mathlib.Omega.{arith}
-use Rattle.answer_words.specs.Words.{displayWord}
+use Rattle.answer_words.specs.Words.{display_word}
 use Rattle.answer_words.proofs.display_word.Statement.{statement}
 use Rattle.answer_words.proofs.display_word.Tie as tie
 
@@ -45,7 +45,7 @@ add-word-4 : tie.Need-overflow-add-word-4
 add-word-4 c = search rules
 
 returns : tie.Need-returns
-unfolding displayWord
+unfolding display_word
 returns c = omega arith
 
 pub display-word-spec : {M : Type 1} → statement M

@@ -5,16 +5,16 @@ use native.Mathlib.Omega.{arith}
 use borrow.Author.Count.{below_none}
 use borrow.Author.Rules.{rules}
 use lib.ListN.{length}
-use Rattle.certificate.specs.Layout.{maxLinks}
+use Rattle.certificate.specs.Layout.{max_links}
 use Rattle.octets.proofs.FilledTables.{Filled, filled_more}
-use Rattle.packed_state.specs.State.{quadAt}
-use Rattle.answer_words.specs.Words.{queueSize}
-use Rattle.answer_words.proofs.Queuing.{no-queues, too_many, not-whole, queues-read}
+use Rattle.packed_state.specs.State.{quad_at}
+use Rattle.answer_words.specs.Words.{queue_size}
+use Rattle.answer_words.proofs.Queuing.{no_queues, too_many, not-whole, queues_read}
 use Rattle.answer_words.proofs.read_queues.Statement.{statement}
 use Rattle.answer_words.proofs.read_queues.Tie as tie
 
 abbrev invariant-loop : tie.invariant-loop
-invariant-loop bytes of₀ size count l₀ of l = (l ≤ count) × Filled maxLinks l (λ k. quadAt bytes (queueSize * k)) of
+invariant-loop bytes of₀ size count l₀ of l = (l ≤ count) × Filled max_links l (λ k. quad_at bytes (queue_size * k)) of
 
 abbrev decreases-loop : tie.decreases-loop
 decreases-loop bytes of₀ size count l₀ of l = count - l
@@ -25,12 +25,12 @@ mul-if1 c = search rules
 returns : tie.Need-returns invariant-loop decreases-loop
 returns c =
     let b = c.before.before.args.bytes.now in
-    record { most = omega arith; queues = sym (no-queues b (too_many b (search rules))) }
+    record { most = omega arith; queues = sym (no_queues b (too_many b (search rules))) }
 
 returns-2 : tie.Need-returns-2 invariant-loop decreases-loop
 returns-2 c =
     let b = c.before.before.before.args.bytes.now in
-    record { most = omega arith; queues = sym (no-queues b (not-whole b (search rules))) }
+    record { most = omega arith; queues = sym (no_queues b (not-whole b (search rules))) }
 
 loop-holds : tie.Need-loop-init invariant-loop decreases-loop
 loop-holds c = (omega arith, (refl, below_none _))
@@ -59,14 +59,14 @@ loop-less c = search rules
 loop-again : tie.Need-loop-preserved invariant-loop decreases-loop
 loop-again c =
     let l = c.before.before.loop in
-    (omega arith, filled_more maxLinks l.l _ l.of _ l.invariant.1 (omega arith) c.quad_at.ensures.0)
+    (omega arith, filled_more max_links l.l _ l.of _ l.invariant.1 (omega arith) c.quad_at.ensures.0)
 
 returns-3 : tie.Need-returns-3 invariant-loop decreases-loop
 returns-3 c =
     let b = c.before.before.before.before.before.args.bytes.now in
     let l = c.before.loop in
     let all : l.l ≡ length b / 4 = omega arith in
-    record { most = omega arith; queues = queues-read b l.of _ refl (search rules) (search rules) (rw all at l.invariant.1) }
+    record { most = omega arith; queues = queues_read b l.of _ refl (search rules) (search rules) (rw all at l.invariant.1) }
 
 pub read-queues-spec : {M : Type 1} → statement M
 read-queues-spec =

@@ -1,6 +1,6 @@
 -- `answer_words::verdict_word` meets its contract. Assumes nothing.
 use native.Mathlib.Omega.{arith}
-use Rattle.answer_words.specs.Words.{verdictWord}
+use Rattle.answer_words.specs.Words.{verdict_word}
 use borrow.Author.Rules.{rules}
 use Rattle.answer_words.proofs.verdict_word.Statement.{statement}
 use Rattle.answer_words.proofs.verdict_word.Tie as tie
@@ -42,7 +42,7 @@ add-word-4 : tie.Need-overflow-add-word-4
 add-word-4 c = search rules
 
 returns : tie.Need-returns
-unfolding verdictWord
+unfolding verdict_word
 returns c = omega arith
 
 pub verdict-word-spec : {M : Type 1} → statement M

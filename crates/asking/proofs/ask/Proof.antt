@@ -15,7 +15,7 @@ not-found-requires c κs = search rules
 returns : tie.Need-returns
 returns c =
     let a = c.before.before.before.before.before.before.before.args in
-    asks_none a.bytes.now a.n a.mode a.queues.now a.scale c.before.before.before.before.stored-reading.ensures.report-is c.before.if1.true c.not_found.ensures
+    asks_none a.bytes.now a.n a.mode a.queues.now a.scale c.before.before.before.before.stored-reading.ensures.report_is c.before.if1.true c.not_found.ensures
 
 sub-look-up : tie.Need-overflow-sub-look-up
 sub-look-up c = search rules
@@ -41,7 +41,7 @@ returns-2 c =
     let a = c.before.before.before.before.before.before.before.before.args in
     let read = c.before.before.before.before.before.stored-reading in
     let z : read.result.report.number ≡ 0 = search rules in
-    asks a.bytes.now a.n a.mode a.queues.now a.scale read.ensures.report-is z (rw sub-zero at c.look_up.ensures)
+    asks a.bytes.now a.n a.mode a.queues.now a.scale read.ensures.report_is z (rw sub-zero at c.look_up.ensures)
 
 pub ask-spec : {M : Type 1} → statement M
 ask-spec =

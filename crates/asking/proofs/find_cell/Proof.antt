@@ -1,6 +1,6 @@
 -- `asking::find_cell` meets its contract. Assumes nothing.
-use Rattle.rank_tables.proofs.Finding.{cells-ascend}
-use Rattle.asking.proofs.Answers.{finds-none, finds}
+use Rattle.rank_tables.proofs.Finding.{cells_ascend}
+use Rattle.asking.proofs.Answers.{finds_none, finds}
 use borrow.Author.Rules.{rules}
 use Rattle.asking.proofs.find_cell.Statement.{statement}
 use Rattle.asking.proofs.find_cell.Tie as tie
@@ -9,13 +9,13 @@ find-entry-requires : tie.Need-find-entry-requires
 find-entry-requires c κs =
     let a = c.before in
     let laid = a.requires.0 in
-    (laid.entries-start-most, laid.entries-start-is, laid.entries-most, laid.entries-are, cells-ascend a.args.s.now a.requires.1, a.requires.2)
+    (laid.entries_start_most, laid.entries_start_is, laid.entries_most, laid.entries_are, cells_ascend a.args.s.now a.requires.1, a.requires.2)
 
 not-found-requires : tie.Need-not-found-requires
 not-found-requires c κs = search rules
 
 returns : tie.Need-returns
-returns c = search finds-none
+returns c = search finds_none
 
 found-at-requires : tie.Need-found-at-requires
 found-at-requires c κs = search rules

@@ -1,9 +1,9 @@
 -- `asking::look_up` meets its contract. Assumes nothing.
 use mathlib.Core.Path.{◌≡◌}
 use mathlib.Core.Bool.{true}
-use Rattle.octets.proofs.Cases.{not_yes, not-no}
-use Rattle.judging.specs.Asking.{isProper}
-use Rattle.asking.proofs.Answers.{finds-improper, as_many, scale-fits, queues-fit, finds-cell}
+use Rattle.octets.proofs.Cases.{not_yes, not_no}
+use Rattle.judging.specs.Asking.{is_proper}
+use Rattle.asking.proofs.Answers.{finds_improper, as_many, scale_fits, queues_fit, finds_cell}
 use borrow.Author.Rules.{rules}
 use Rattle.asking.proofs.look_up.Statement.{statement}
 use Rattle.asking.proofs.look_up.Tie as tie
@@ -15,16 +15,16 @@ not-found-requires : tie.Need-not-found-requires
 not-found-requires c κs = search rules
 
 returns : tie.Need-returns
-returns c = search (finds-improper, not_yes)
+returns c = search (finds_improper, not_yes)
 
 cell-at-requires : tie.Need-cell-at-requires
 cell-at-requires c κs =
     let a = c.before.before.before.before.before.before in
     let s = a.args.s.now in
     let queues = a.args.queues.now in
-    let ok : isProper s queues a.args.scale ≡ true = search not-no in
+    let ok : is_proper s queues a.args.scale ≡ true = search not_no in
     let laid = a.requires.0 in
-    (a.requires.1, laid.grid-is, laid.links-are, as_many s a.args.mode queues _ ok laid.links-are, scale-fits s a.args.mode queues _ ok, queues-fit s a.args.mode queues _ ok)
+    (a.requires.1, laid.grid_is, laid.links_are, as_many s a.args.mode queues _ ok laid.links_are, scale_fits s a.args.mode queues _ ok, queues_fit s a.args.mode queues _ ok)
 
 find-cell-requires : tie.Need-find-cell-requires
 find-cell-requires c κs =
@@ -32,7 +32,7 @@ find-cell-requires c κs =
     (a.requires.0, a.requires.1, search rules)
 
 returns-2 : tie.Need-returns-2
-returns-2 c = search (finds-cell, not-no)
+returns-2 c = search (finds_cell, not_no)
 
 pub look-up-spec : {M : Type 1} → statement M
 look-up-spec =

@@ -11,7 +11,7 @@ turned-back-requires : tie.Need-turned-back-requires
 turned-back-requires c κs = search rules
 
 returns : tie.Need-returns
-returns c = c.turned-back.ensures ∙ rw c.before.refuse.ensures
+returns c = c.turned_back.ensures ∙ rw c.before.refuse.ensures
 
 pub not-found-spec : {M : Type 1} → statement M
 not-found-spec = tie.close (tie.spec refuse-requires turned-back-requires returns)

@@ -5,9 +5,9 @@ use mathlib.Core.Logic.{⊎_elim}
 use native.Mathlib.Nat.{eq-or-lt_of_le}
 use native.Mathlib.Omega.{arith}
 use borrow.Author.Rules.{rules}
-use Rattle.certificate.specs.Records.{entryFault}
+use Rattle.certificate.specs.Records.{entry_fault}
 use Rattle.entry_checks.specs.Keys.{KeyBefore, Ordered}
-use Rattle.entry_checks.proofs.EntryPairs.{key-none, plain-fine}
+use Rattle.entry_checks.proofs.EntryPairs.{key_none, plain_fine}
 use Rattle.entry_checks.proofs.check_entries.Statement.{statement}
 use Rattle.entry_checks.proofs.check_entries.Tie as tie
 
@@ -18,7 +18,7 @@ abbrev decreases-loop : tie.decreases-loop
 decreases-loop s start counts entries least₀ e₀ least e = entries - e
 
 loop-holds : tie.Need-loop-init invariant-loop decreases-loop
-loop-holds c = ((λ k lt. absurd (omega arith)), key-none _)
+loop-holds c = ((λ k lt. absurd (omega arith)), key_none _)
 
 entry-at-requires : tie.Need-entry-at-requires invariant-loop decreases-loop
 entry-at-requires c κs = search rules
@@ -59,7 +59,7 @@ accept-requires c κs = search rules
 returns-3 : tie.Need-returns-3 invariant-loop decreases-loop
 returns-3 c =
     let given = c.before.before.before.before.before.requires in
-    c.accept.ensures ∙ plain-fine _ _ (λ k lt. c.before.before.before.loop.invariant.0 k (omega (arith, c.before.before.loop-test.false))) given.4.memory-is c.before.if2.false
+    c.accept.ensures ∙ plain_fine _ _ (λ k lt. c.before.before.before.loop.invariant.0 k (omega (arith, c.before.before.loop-test.false))) given.4.memory_is c.before.if2.false
 
 pub check-entries-spec : {M : Type 1} → statement M
 check-entries-spec =

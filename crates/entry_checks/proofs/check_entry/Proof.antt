@@ -1,5 +1,5 @@
 -- `entry_checks::check_entry` meets its contract. Assumes nothing.
-use Rattle.entry_checks.proofs.EntryPairs.{key-ascends, entry-unopened, entry_whole, entry-result}
+use Rattle.entry_checks.proofs.EntryPairs.{key_ascends, entry_unopened, entry_whole, entry_result}
 use native.Mathlib.Omega.{arith}
 use borrow.Author.Rules.{rules}
 use Rattle.entry_checks.proofs.check_entry.Statement.{statement}
@@ -12,7 +12,7 @@ check-opened-requires : tie.Need-check-opened-requires
 check-opened-requires c κs = search rules
 
 returns : tie.Need-returns
-returns c = search entry-unopened
+returns c = search entry_unopened
 
 key-at-requires : tie.Need-key-at-requires
 key-at-requires c κs = (search rules, search rules, search entry_whole)
@@ -47,8 +47,8 @@ returns-2 c =
     let on = turn.before in
     let opening = on.before.before.before.before.before in
     let given = opening.before.before.before.requires in
-    entry-result _ _ given.1 opening.before.marked-as.ensures opening.check-opened.ensures on.before.names-exist.ensures
-    (key-ascends _ _ on.before.before.key-at.ensures given.4) on.passes_on.ensures turn.turns-on.ensures
+    entry_result _ _ given.1 opening.before.marked-as.ensures opening.check-opened.ensures on.before.names-exist.ensures
+    (key_ascends _ _ on.before.before.key-at.ensures given.4) on.passes_on.ensures turn.turns_on_fact.ensures
     c.before.before.before.record-result.ensures c.before.before.record-result2.ensures c.before.record-result3.ensures c.record-result4.ensures
 
 pub check-entry-spec : {M : Type 1} → statement M

@@ -4,15 +4,15 @@ use mathlib.Core.Path.{◌≡◌, refl}
 use native.Mathlib.Omega.{arith}
 use borrow.Author.Rules.{rules}
 use borrow.Author.Tests.{not-true, not-false}
-use Rattle.certificate.specs.Checks.{firstFrom}
-use Rattle.certificate.specs.Records.{entryFault}
+use Rattle.certificate.specs.Checks.{first_from}
+use Rattle.certificate.specs.Records.{entry_fault}
 use Rattle.octets.proofs.Cases.{refused, go_on, stop, end}
-use Rattle.entry_checks.proofs.EntryPairs.{ordered-fine, ordered-bad, remembered-bad}
+use Rattle.entry_checks.proofs.EntryPairs.{ordered_fine, ordered_bad, remembered_bad}
 use Rattle.entry_checks.proofs.check_memories.Statement.{statement}
 use Rattle.entry_checks.proofs.check_memories.Tie as tie
 
 abbrev invariant-loop : tie.invariant-loop
-invariant-loop s start counts entries e₀ e = firstFrom entries (entryFault s) e ≡ firstFrom entries (entryFault s) 0
+invariant-loop s start counts entries e₀ e = first_from entries (entry_fault s) e ≡ first_from entries (entry_fault s) 0
 
 abbrev decreases-loop : tie.decreases-loop
 decreases-loop s start counts entries e₀ e = entries - e
@@ -37,7 +37,7 @@ returns c =
     let turn = c.before.before.before in
     let given = turn.before.before.before.before.requires in
     let inside = turn.before.loop-test.true in
-    let bad = ordered-bad _ _ (given.4 _ inside) c.before.before.passes_on.ensures (omega (arith, given.2, turn.entry_at.ensures)) (not-true _ c.before.if1.true) c.refuse.ensures in
+    let bad = ordered_bad _ _ (given.4 _ inside) c.before.before.passes_on.ensures (omega (arith, given.2, turn.entry_at.ensures)) (not-true _ c.before.if1.true) c.refuse.ensures in
     stop _ _ _ _ _ inside bad (refused c.refuse.ensures refl) turn.before.before.loop.invariant
 
 turns-on-requires : tie.Need-turns-on-requires invariant-loop decreases-loop
@@ -56,7 +56,7 @@ returns-2 c =
     let turn = on.before in
     let given = turn.before.before.before.before.requires in
     let inside = turn.before.loop-test.true in
-    let bad = remembered-bad _ _ (given.4 _ inside) on.passes_on.ensures c.before.before.turns-on.ensures (omega (arith, given.2, turn.entry_at.ensures)) (not-false _ c.before.before.before.if1.false) (not-true _ c.before.if2.true) c.refuse2.ensures in
+    let bad = remembered_bad _ _ (given.4 _ inside) on.passes_on.ensures c.before.before.turns-on.ensures (omega (arith, given.2, turn.entry_at.ensures)) (not-false _ c.before.before.before.if1.false) (not-true _ c.before.if2.true) c.refuse2.ensures in
     stop _ _ _ _ _ inside bad (refused c.refuse2.ensures refl) turn.before.before.loop.invariant
 
 add-e : tie.Need-overflow-add-e invariant-loop decreases-loop
@@ -71,7 +71,7 @@ loop-again c =
     let turn = on.before in
     let given = turn.before.before.before.before.requires in
     let inside = turn.before.loop-test.true in
-    go_on _ _ _ _ _ inside (ordered-fine _ _ (given.4 _ inside) on.passes_on.ensures c.before.turns-on.ensures (not-false _ c.before.before.if1.false) (not-false _ c.if2.false)) refl turn.before.before.loop.invariant
+    go_on _ _ _ _ _ inside (ordered_fine _ _ (given.4 _ inside) on.passes_on.ensures c.before.turns-on.ensures (not-false _ c.before.before.if1.false) (not-false _ c.if2.false)) refl turn.before.before.loop.invariant
 
 accept-requires : tie.Need-accept-requires invariant-loop decreases-loop
 accept-requires c κs = search rules

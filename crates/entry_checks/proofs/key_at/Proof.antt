@@ -31,7 +31,7 @@ returns c =
     let cell : c.before.u16-within.result ≡ cell_of c.before.before.before.args.s.now c.before.before.before.args.e = c.before.u16-within.ensures.0 ∙ rw here in
     record {
       is = rw (cell, mode);
-      mode-most = rw (← mode) c.byte-within.ensures.1;
+      mode_most = rw (← mode) c.byte-within.ensures.1;
       most = omega (arith, c.byte-within.ensures.1, c.before.u16-within.ensures.1);
     }
 

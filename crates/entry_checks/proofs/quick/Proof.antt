@@ -1,7 +1,7 @@
 -- `entry_checks::quick` meets its contract. Assumes nothing.
 use mathlib.Core.Path.{refl}
 use native.Mathlib.Omega.{arith}
-use Rattle.entry_checks.proofs.EntryPairs.{entry-ordered, key-next, key-ascends}
+use Rattle.entry_checks.proofs.EntryPairs.{entry_ordered, key_next, key_ascends}
 use borrow.Author.Rules.{rules}
 use Rattle.entry_checks.proofs.quick.Statement.{statement}
 use Rattle.entry_checks.proofs.quick.Tie as tie
@@ -28,7 +28,7 @@ returns-2 : tie.Need-returns-2
 returns-2 c = λ some.
     let start = c.before.before.before.before.before.before in
     let key = c.before.before.before.key-at.ensures in
-    (entry-ordered _ _ start.requires.1 (omega arith) c.before.before.marked-within.ensures c.before.names-exist.ensures (key-ascends _ _ key start.requires.4) c.if2.true, key-next _ _ key)
+    (entry_ordered _ _ start.requires.1 (omega arith) c.before.before.marked-within.ensures c.before.names-exist.ensures (key_ascends _ _ key start.requires.4) c.if2.true, key_next _ _ key)
 
 returns-3 : tie.Need-returns-3
 returns-3 c = λ some. absurd (some refl)

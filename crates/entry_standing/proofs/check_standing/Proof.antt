@@ -1,6 +1,6 @@
 -- `entry_standing::check_standing` meets its contract. Assumes nothing.
 use Rattle.octets.proofs.Cases.{cases}
-use Rattle.judging.specs.EntryTests.{standingFault}
+use Rattle.judging.specs.EntryTests.{standing_fault}
 use borrow.Author.Rules.{rules}
 use Rattle.entry_standing.proofs.check_standing.Statement.{statement}
 use Rattle.entry_standing.proofs.check_standing.Tie as tie
@@ -15,7 +15,7 @@ report-requires : tie.Need-report-requires
 report-requires c κs = search rules
 
 returns : tie.Need-returns
-unfolding standingFault
+unfolding standing_fault
 returns c = search cases depth 9
 
 rank-fits-requires : tie.Need-rank-fits-requires
@@ -25,14 +25,14 @@ report-requires-2 : tie.Need-report-requires-2
 report-requires-2 c κs = search rules
 
 returns-2 : tie.Need-returns-2
-unfolding standingFault
+unfolding standing_fault
 returns-2 c = search cases depth 9
 
 report-requires-3 : tie.Need-report-requires-3
 report-requires-3 c κs = search rules
 
 returns-3 : tie.Need-returns-3
-unfolding standingFault
+unfolding standing_fault
 returns-3 c = search cases depth 9
 
 pub check-standing-spec : {M : Type 1} → statement M

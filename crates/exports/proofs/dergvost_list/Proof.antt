@@ -1,12 +1,12 @@
 -- `exports::dergvost_list` meets its contract: the listing's report and its buffer, where the report's slice has room. Assumes nothing.
 use native.Mathlib.Omega.{arith}
 use borrow.Author.Rules.{rules}
-use Rattle.exports.proofs.Answering.{nothing-done, all_done}
+use Rattle.exports.proofs.Answering.{nothing_done, all_done}
 use Rattle.exports.proofs.dergvost_list.Statement.{statement}
 use Rattle.exports.proofs.dergvost_list.Tie as tie
 
 returns : tie.Need-returns
-returns c = nothing-done (omega arith)
+returns c = nothing_done (omega arith)
 
 list-requires : tie.Need-list-requires
 list-requires c κs = search rules

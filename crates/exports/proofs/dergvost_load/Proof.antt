@@ -2,13 +2,13 @@
 use mathlib.Core.Path.{sym, ap, ◌∙◌}
 use native.Mathlib.Omega.{arith}
 use Rattle.certificate.specs.declared.Report.{Report}
-use Rattle.exports.proofs.Answering.{nothing-done, all_done}
+use Rattle.exports.proofs.Answering.{nothing_done, all_done}
 use borrow.Author.Rules.{rules}
 use Rattle.exports.proofs.dergvost_load.Statement.{statement}
 use Rattle.exports.proofs.dergvost_load.Tie as tie
 
 returns : tie.Need-returns
-returns c = record { called = nothing-done (omega arith); claim = λ z. absurd (omega arith) }
+returns c = record { called = nothing_done (omega arith); claim = λ z. absurd (omega arith) }
 
 load-requires : tie.Need-load-requires
 load-requires c κs = search rules

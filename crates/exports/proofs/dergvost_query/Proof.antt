@@ -1,12 +1,12 @@
 -- `exports::dergvost_query` meets its contract: 255, or what the query shows and the state's bytes afterwards. Assumes nothing.
 use native.Mathlib.Omega.{arith}
-use Rattle.exports.proofs.Answering.{nothing-done, all_done}
+use Rattle.exports.proofs.Answering.{nothing_done, all_done}
 use borrow.Author.Rules.{rules}
 use Rattle.exports.proofs.dergvost_query.Statement.{statement}
 use Rattle.exports.proofs.dergvost_query.Tie as tie
 
 returns : tie.Need-returns
-returns c = nothing-done (omega arith)
+returns c = nothing_done (omega arith)
 
 query-requires : tie.Need-query-requires
 query-requires c κs = search rules

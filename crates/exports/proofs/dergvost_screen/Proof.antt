@@ -18,7 +18,7 @@ same_length : tie.Need-same-length
 same_length c = search rules
 
 returns-2 : tie.Need-returns-2
-returns-2 c = answered (omega arith) (rw (← c.before.before.before.before.screen.ensures.report-is) c.before.before.put-report.ensures)
+returns-2 c = answered (omega arith) (rw (← c.before.before.before.before.screen.ensures.report_is) c.before.before.put-report.ensures)
 
 pub dergvost-screen-spec : {M : Type 1} → statement M
 dergvost-screen-spec =

@@ -2,16 +2,16 @@
 use mathlib.Core.Path.{◌≡◌, sym, ◌∙◌}
 use native.Mathlib.Omega.{arith}
 use lib.ListN.{length}
-use Rattle.packed_state.specs.State.{stateSize}
+use Rattle.packed_state.specs.State.{state_size}
 use Rattle.packed_state.proofs.Packing.{is_state, is_none}
-use Rattle.exports.proofs.Answering.{nothing-done, all_done}
-use Rattle.held_state.proofs.Lengths.{other-lengths}
+use Rattle.exports.proofs.Answering.{nothing_done, all_done}
+use Rattle.held_state.proofs.Lengths.{other_lengths}
 use borrow.Author.Rules.{rules}
 use Rattle.exports.proofs.dergvost_write.Statement.{statement}
 use Rattle.exports.proofs.dergvost_write.Tie as tie
 
 returns : tie.Need-returns
-returns c = nothing-done (omega arith)
+returns c = nothing_done (omega arith)
 
 has-state-size-requires : tie.Need-has-state-size-requires
 has-state-size-requires c κs = search rules
@@ -28,8 +28,8 @@ same_length c = search rules
 returns-2 : tie.Need-returns-2
 returns-2 c =
     let a = c.before.before.before.before.before.before.before.before.before.before.before.args in
-    let none : length a.state.now ≡ stateSize → ⊥ = search is_none in
-    let back = (other-lengths a.state.now none).write a.buffer.now a.start in
+    let none : length a.state.now ≡ state_size → ⊥ = search is_none in
+    let back = (other_lengths a.state.now none).write a.buffer.now a.start in
     all_done (omega arith) (rw (← (c.before.before.before.before.refuse.ensures ∙ sym back.0)) c.before.before.put-report.ensures) (sym back.1)
 
 unpack-requires : tie.Need-unpack-requires

@@ -1,5 +1,5 @@
 -- `header_record::check_header` meets its contract. Assumes nothing.
-use Rattle.certificate.specs.Records.{headerFault}
+use Rattle.certificate.specs.Records.{header_fault}
 use borrow.Author.Rules.{rules}
 use Rattle.header_record.proofs.check_header.Statement.{statement}
 use Rattle.header_record.proofs.check_header.Tie as tie
@@ -17,7 +17,7 @@ record-result-requires : tie.Need-record-result-requires
 record-result-requires c κs = search rules
 
 returns : tie.Need-returns
-unfolding headerFault
+unfolding header_fault
 returns c = rw (← c.before.before.before.header-marked.ensures, ← c.before.before.check-opened.ensures, ← c.before.counts-ok.ensures) c.record-result.ensures
 
 pub check-header-spec : {M : Type 1} → statement M

@@ -1,6 +1,6 @@
 -- `header_record::counts_ok` meets its contract. Assumes nothing.
 use Rattle.certificate.specs.Octets.{◌also◌}
-use Rattle.certificate.specs.Records.{headerOk}
+use Rattle.certificate.specs.Records.{header_ok}
 use borrow.Author.Rules.{rules}
 use Rattle.header_record.proofs.counts_ok.Statement.{statement}
 use Rattle.header_record.proofs.counts_ok.Tie as tie
@@ -24,7 +24,7 @@ entries-of-requires : tie.Need-entries-of-requires
 entries-of-requires c κs = search rules
 
 returns : tie.Need-returns
-unfolding headerOk ◌also◌
+unfolding header_ok ◌also◌
 returns c = rw (c.entries-of.ensures.0, c.before.boxes-of.ensures.0, c.before.before.modes-of.ensures.0, c.before.before.before.signals-of.ensures.0, c.before.before.before.before.turns-of.ensures.0, c.before.before.before.before.before.links-of.ensures.0)
 
 pub counts-ok-spec : {M : Type 1} → statement M

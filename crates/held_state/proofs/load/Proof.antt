@@ -1,6 +1,6 @@
 -- `held_state::load` meets its contract: 18, or the load's report and the next state's bytes. Assumes nothing.
 use Rattle.packed_state.proofs.Packing.{is_state, is_none}
-use Rattle.held_state.proofs.Lengths.{no-state-load, load-passes}
+use Rattle.held_state.proofs.Lengths.{no_state_load, load_passes}
 use borrow.Author.Rules.{rules}
 use Rattle.held_state.proofs.load.Statement.{statement}
 use Rattle.held_state.proofs.load.Tie as tie
@@ -18,7 +18,7 @@ same_length : tie.Need-same-length
 same_length c = search rules
 
 returns : tie.Need-returns
-returns c = let turned = c.refused.ensures in no-state-load _ (search is_none) _ c.before.refuse.ensures _ _ turned.0 turned.1
+returns c = let turned = c.refused.ensures in no_state_load _ (search is_none) _ c.before.refuse.ensures _ _ turned.0 turned.1
 
 fresh-requires : tie.Need-fresh-requires
 fresh-requires c κs = search rules
@@ -35,7 +35,7 @@ same-length-2 c = search rules
 returns-2 : tie.Need-returns-2
 returns-2 c =
     let loaded = c.before.before.before.before.before.before.load.ensures in
-    load-passes _ (search is_state) _ _ _ loaded.0 _ loaded.1 c.before.before.pack.ensures
+    load_passes _ (search is_state) _ _ _ loaded.0 _ loaded.1 c.before.before.pack.ensures
 
 pub load_spec : {M : Type 1} → statement M
 load_spec =

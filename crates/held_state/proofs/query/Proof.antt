@@ -1,9 +1,9 @@
 -- `held_state::query` meets its contract: 18, or what the query shows and the next state's bytes. Assumes nothing.
 use mathlib.Core.Path.{◌≡◌}
 use lib.ListN.{length}
-use Rattle.packed_state.specs.State.{stateSize}
+use Rattle.packed_state.specs.State.{state_size}
 use Rattle.packed_state.proofs.Packing.{is_state, is_none}
-use Rattle.held_state.proofs.Lengths.{other-lengths, no-state-display}
+use Rattle.held_state.proofs.Lengths.{other_lengths, no_state_display}
 use borrow.Author.Rules.{rules}
 use Rattle.held_state.proofs.query.Statement.{statement}
 use Rattle.held_state.proofs.query.Tie as tie
@@ -20,8 +20,8 @@ same_length c = search rules
 returns : tie.Need-returns
 returns c =
     let a = c.before.before.before.before.before.before.args in
-    let none : length a.state.now ≡ stateSize → ⊥ = search is_none in
-    no-state-display _ _ _ ((other-lengths a.state.now none).query a.queues.now a.scale) c.no-state.ensures
+    let none : length a.state.now ≡ state_size → ⊥ = search is_none in
+    no_state_display _ _ _ ((other_lengths a.state.now none).query a.queues.now a.scale) c.no-state.ensures
 
 unpack-requires : tie.Need-unpack-requires
 unpack-requires c κs = search is_state

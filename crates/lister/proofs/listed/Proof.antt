@@ -3,7 +3,7 @@ use borrow.Author.Rules.{rules}
 use native.Mathlib.Omega.{arith}
 use native.Mathlib.Nat.{sub-zero}
 use lib.ListN.{take}
-use Rattle.listing_text.proofs.Listings.{listing-fits, listing-sent}
+use Rattle.listing_text.proofs.Listings.{listing_fits, listing_sent}
 use Rattle.lister.proofs.listed.Statement.{statement}
 use Rattle.lister.proofs.listed.Tie as tie
 
@@ -30,8 +30,8 @@ returns c =
     let s = c.before.before.before.before.before.before.before.before in
     let l = c.before.before.before.list in
     let front = take s.args.n s.args.bytes.now in
-    let whole = listing-sent front _ _ _ s.requires.1 (rw sub-zero at l.ensures) in
-    (omega (arith, whole.place, listing-fits front, l.auto.1.0, s.requires.1), whole.text)
+    let whole = listing_sent front _ _ _ s.requires.1 (rw sub-zero at l.ensures) in
+    (omega (arith, whole.place, listing_fits front, l.auto.1.0, s.requires.1), whole.text)
 
 pub listed-spec : {M : Type 1} → statement M
 listed-spec =

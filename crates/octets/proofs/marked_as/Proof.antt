@@ -13,9 +13,9 @@ use Rattle.octets.proofs.marked_as.Statement.{statement}
 use Rattle.octets.proofs.marked_as.Tie as tie
 
 -- a test of two bytes fails where the second does
-second-fails : (first : Bool) → false ≡ (first && false)
-second-fails true = refl
-second-fails false = refl
+second_fails : (first : Bool) → false ≡ (first && false)
+second_fails true = refl
+second_fails false = refl
 
 add-if1 : tie.Need-overflow-add-if1
 add-if1 c = search rules
@@ -25,7 +25,7 @@ unfolding marked
 returns c =
     let a = c.before.before.args in
     let past : byte_at a.s.now (a.o + 1) ≡ 0 = get_or-eq_default a.s.now 0 (omega arith) in
-    rw (past, ne_eqb 0 a.k (omega arith)) (second-fails (eqb (byte_at a.s.now a.o) a.m))
+    rw (past, ne_eqb 0 a.k (omega arith)) (second_fails (eqb (byte_at a.s.now a.o) a.m))
 
 marked-within-requires : tie.Need-marked-within-requires
 marked-within-requires c κs = search rules

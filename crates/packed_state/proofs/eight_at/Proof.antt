@@ -1,5 +1,5 @@
 -- `packed_state::eight_at` meets its contract: two numbers of four bytes. Assumes nothing.
-use Rattle.packed_state.specs.State.{eightAt}
+use Rattle.packed_state.specs.State.{eight_at}
 use borrow.Author.Rules.{rules}
 use Rattle.packed_state.proofs.eight_at.Statement.{statement}
 use Rattle.packed_state.proofs.eight_at.Tie as tie
@@ -20,7 +20,7 @@ add-result : tie.Need-overflow-add-result
 add-result c = search rules
 
 returns : tie.Need-returns
-unfolding eightAt
+unfolding eight_at
 returns c = rw (c.before.quad_at.ensures.0, c.quad-at2.ensures.0)
 
 pub eight-at-spec : {M : Type 1} → statement M

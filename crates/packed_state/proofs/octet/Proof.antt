@@ -1,5 +1,5 @@
 -- `packed_state::octet` meets its contract. Assumes nothing.
-use Rattle.packed_state.specs.State.{octetOf}
+use Rattle.packed_state.specs.State.{octet_of}
 use mathlib.Core.Path.{refl}
 use borrow.Author.Rules.{rules}
 use Rattle.packed_state.proofs.octet.Statement.{statement}
@@ -12,7 +12,7 @@ cast-result : tie.Need-overflow-cast-result
 cast-result c = search rules
 
 returns : tie.Need-returns
-unfolding octetOf
+unfolding octet_of
 returns c = refl
 
 pub octet-spec : {M : Type 1} → statement M

@@ -2,16 +2,16 @@
 use mathlib.Core.Path.{◌≡◌, ◌∙◌}
 use native.Mathlib.Omega.{arith}
 use lib.ListN.{length, length-append, length-take, length-drop}
-use Rattle.certificate.specs.Layout.{maxLength}
+use Rattle.certificate.specs.Layout.{max_length}
 use Rattle.octets.proofs.Copying.{put_back}
-use Rattle.packed_state.specs.State.{stateTailSize, stateTail, stateBytes}
-use Rattle.packed_state.proofs.Packing.{packed, refusal-keeps, success-passes}
+use Rattle.packed_state.specs.State.{state_tail_size, state_tail, state_bytes}
+use Rattle.packed_state.proofs.Packing.{packed, refusal_keeps, success_passes}
 use borrow.Author.Rules.{rules}
 use Rattle.packed_state.proofs.pack.Statement.{statement}
 use Rattle.packed_state.proofs.pack.Tie as tie
 
 returns : tie.Need-returns
-returns c = refusal-keeps _ _ _ c.if1.true
+returns c = refusal_keeps _ _ _ c.if1.true
 
 put-requires : tie.Need-put-requires
 put-requires c κs = search rules
@@ -32,16 +32,16 @@ same_length : tie.Need-same-length
 same_length c = simp (length-append, length-take, length-drop) (omega arith)
 
 returns-2 : tie.Need-returns-2
-unfolding stateBytes
+unfolding state_bytes
 returns-2 c =
     let start = c.before.before.before.before.before.before.before.before.before.before.before.before.before in
     let next = start.args.t2 in
     let put = c.before.before.before.before.before.before.put in
-    let tail = stateTail next.len next.mode in
-    let size : length next.bytes ≡ maxLength = search rules in
-    success-passes _ next _ _ c.before.before.before.before.before.before.before.before.before.before.before.if1.false
-    (put_back put.new.1.1.0 tail _ maxLength stateTailSize c.before.before.put-tail.ensures
-    ∙ packed maxLength stateTailSize next.bytes start.args.state.now _ size start.requires put.ensures tail)
+    let tail = state_tail next.len next.mode in
+    let size : length next.bytes ≡ max_length = search rules in
+    success_passes _ next _ _ c.before.before.before.before.before.before.before.before.before.before.before.if1.false
+    (put_back put.new.1.1.0 tail _ max_length state_tail_size c.before.before.put-tail.ensures
+    ∙ packed max_length state_tail_size next.bytes start.args.state.now _ size start.requires put.ensures tail)
 
 pub pack-spec : {M : Type 1} → statement M
 pack-spec =

@@ -1,6 +1,6 @@
 -- `packed_state::put_tail` meets its contract: nine bytes at the front of a slice that has room. Assumes nothing.
 use mathlib.Core.Path.{◌∙◌}
-use Rattle.packed_state.specs.State.{stateTail}
+use Rattle.packed_state.specs.State.{state_tail}
 use borrow.Author.Rules.{rules}
 use Rattle.packed_state.proofs.put_tail.Statement.{statement}
 use Rattle.packed_state.proofs.put_tail.Tie as tie
@@ -18,7 +18,7 @@ same_length : tie.Need-same-length
 same_length c = search rules
 
 returns : tie.Need-returns
-unfolding stateTail
+unfolding state_tail
 returns c = c.before.before.put.ensures ∙ rw c.before.before.before.before.before.Tail-of.ensures
 
 pub put-tail-spec : {M : Type 1} → statement M

@@ -1,5 +1,5 @@
 -- `packed_state::quad_at` meets its contract: two numbers of two bytes. Assumes nothing.
-use Rattle.packed_state.specs.State.{quadAt}
+use Rattle.packed_state.specs.State.{quad_at}
 use native.Mathlib.Omega.{arith}
 use borrow.Author.Rules.{rules}
 use Rattle.packed_state.proofs.quad_at.Statement.{statement}
@@ -21,7 +21,7 @@ add-result : tie.Need-overflow-add-result
 add-result c = search rules
 
 returns : tie.Need-returns
-unfolding quadAt
+unfolding quad_at
 returns c = (rw (c.before.u16-at.ensures.0, c.u16-at2.ensures.0), omega arith)
 
 pub quad-at-spec : {M : Type 1} → statement M

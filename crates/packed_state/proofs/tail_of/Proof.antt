@@ -1,5 +1,5 @@
 -- `packed_state::tail_of` meets its contract: eight octets and the mode. Assumes nothing.
-use Rattle.packed_state.specs.State.{stateTail}
+use Rattle.packed_state.specs.State.{state_tail}
 use borrow.Author.Rules.{rules}
 use Rattle.packed_state.proofs.tail_of.Statement.{statement}
 use Rattle.packed_state.proofs.tail_of.Tie as tie
@@ -29,7 +29,7 @@ octet-requires-8 : tie.Need-octet-requires-8
 octet-requires-8 c κs = search rules
 
 returns : tie.Need-returns
-unfolding stateTail
+unfolding state_tail
 returns c = rw (c.before.before.before.before.before.before.before.octet.ensures, c.before.before.before.before.before.before.octet2.ensures, c.before.before.before.before.before.octet3.ensures, c.before.before.before.before.octet4.ensures, c.before.before.before.octet5.ensures, c.before.before.octet6.ensures, c.before.octet7.ensures, c.octet8.ensures)
 
 pub tail-of-spec : {M : Type 1} → statement M

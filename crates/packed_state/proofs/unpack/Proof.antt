@@ -1,6 +1,6 @@
 -- `packed_state::unpack` meets its contract: the array's copy, the length and the mode. Assumes nothing.
 use mathlib.Core.Path.{refl}
-use Rattle.certificate.specs.Layout.{maxLength}
+use Rattle.certificate.specs.Layout.{max_length}
 use Rattle.packed_state.proofs.Packing.{copied, made}
 use borrow.Author.Rules.{rules}
 use Rattle.packed_state.proofs.unpack.Statement.{statement}
@@ -22,7 +22,7 @@ returns : tie.Need-returns
 returns c =
     let start = c.before.before.before.before.before.before in
     let s = start.args.state.now in
-    made s _ _ _ start.requires (copied maxLength s _ c.before.before.before.put.ensures) c.before.eight-at.ensures refl
+    made s _ _ _ start.requires (copied max_length s _ c.before.before.before.put.ensures) c.before.eight-at.ensures refl
 
 pub unpack-spec : {M : Type 1} → statement M
 unpack-spec =

@@ -1,5 +1,5 @@
 -- `reading::check_end` meets its contract. Assumes nothing.
-use Rattle.certificate.specs.Records.{endFault}
+use Rattle.certificate.specs.Records.{end_fault}
 use borrow.Author.Rules.{rules}
 use Rattle.reading.proofs.check_end.Statement.{statement}
 use Rattle.reading.proofs.check_end.Tie as tie
@@ -17,7 +17,7 @@ record-result-requires : tie.Need-record-result-requires
 record-result-requires c κs = search rules
 
 returns : tie.Need-returns
-unfolding endFault
+unfolding end_fault
 returns c = rw (← c.before.before.before.before.requires.1, ← c.before.before.marked-as.ensures, ← c.before.check-opened.ensures) c.record-result.ensures
 
 pub check-end-spec : {M : Type 1} → statement M

@@ -1,5 +1,5 @@
 -- `reading::starts_of` meets its contract. Assumes nothing.
-use Rattle.reading.proofs.Stages.{modes-begin, starts-are}
+use Rattle.reading.proofs.Stages.{modes_begin, starts_are}
 use native.Mathlib.Omega.{arith}
 use borrow.Author.Rules.{rules}
 use Rattle.reading.proofs.starts_of.Statement.{statement}
@@ -35,14 +35,14 @@ place-of-requires c κs =
     let turn = signal.before.before in
     let link = turn.before.before in (
       omega (arith, signal.signal-at.ensures, signal.before.signals-of.ensures, turn.turn_at.ensures, turn.before.turns-of.ensures, link.link_at.ensures),
-      modes-begin _ link.before.links-of.ensures.0 turn.before.turns-of.ensures.0 signal.before.signals-of.ensures.0 link.link_at.ensures.0 turn.turn_at.ensures.0 signal.signal-at.ensures.0,
+      modes_begin _ link.before.links-of.ensures.0 turn.before.turns-of.ensures.0 signal.before.signals-of.ensures.0 link.link_at.ensures.0 turn.turn_at.ensures.0 signal.signal-at.ensures.0,
     )
 
 mode-at-requires : tie.Need-mode-at-requires
 mode-at-requires c κs = search rules
 
 returns : tie.Need-returns
-returns c = search starts-are
+returns c = search starts_are
 
 pub starts-of-spec : {M : Type 1} → statement M
 starts-of-spec =

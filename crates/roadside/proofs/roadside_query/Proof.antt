@@ -3,8 +3,8 @@ use mathlib.Core.Path.{◌≡◌, ◌∙◌, ap}
 use native.Mathlib.Nat.{sub-zero}
 use borrow.Author.Rules.{rules}
 use lib.ListN.{length}
-use Rattle.certificate.specs.Layout.{maxLinks}
-use Rattle.answer_words.specs.Words.{displayWord}
+use Rattle.certificate.specs.Layout.{max_links}
+use Rattle.answer_words.specs.Words.{display_word}
 use Rattle.roadside.proofs.roadside_query.Statement.{statement}
 use Rattle.roadside.proofs.roadside_query.Tie as tie
 
@@ -20,7 +20,7 @@ part-query-start c = search rules
 part-query-end : tie.Need-slice-bounds-query-end
 part-query-end c =
     let read = c.before.before.before.read-queues in
-    let size : length read.result.of ≡ maxLinks = search rules in
+    let size : length read.result.of ≡ max_links = search rules in
     let most = read.ensures.most in
     search rules
 
@@ -37,7 +37,7 @@ returns : tie.Need-returns
 returns c =
     let read = c.before.before.before.before.before.before.before.before.read-queues.ensures in
     let asked = rw (sub-zero, read.queues) at c.before.before.before.query.ensures in
-    record { answer = c.display-word.ensures ∙ ap displayWord asked.display; bytes = asked.bytes }
+    record { answer = c.display-word.ensures ∙ ap display_word asked.display; bytes = asked.bytes }
 
 pub roadside-query-spec : {M : Type 1} → statement M
 roadside-query-spec =

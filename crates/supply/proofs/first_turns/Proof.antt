@@ -6,13 +6,13 @@ use borrow.Author.Count.{below_none}
 use borrow.Author.Rules.{rules}
 use lib.Dec.{leb}
 use Rattle.certificate.specs.Loops.{find}
-use Rattle.certificate.specs.Layout.{turnsOf, fromOf}
+use Rattle.certificate.specs.Layout.{turns_of, from_of}
 use Rattle.octets.proofs.FilledTables.{Filled, filled_more}
 use Rattle.supply.proofs.first_turns.Statement.{statement}
 use Rattle.supply.proofs.first_turns.Tie as tie
 
 abbrev invariant-loop : tie.invariant-loop
-invariant-loop s start turns first₀ j₀ first j = (j ≤ 9) × Filled 9 j (λ k. find (turnsOf s) (λ t. leb k (fromOf s t))) first
+invariant-loop s start turns first₀ j₀ first j = (j ≤ 9) × Filled 9 j (λ k. find (turns_of s) (λ t. leb k (from_of s t))) first
 
 abbrev decreases-loop : tie.decreases-loop
 decreases-loop s start turns first₀ j₀ first j = 9 - j
@@ -36,7 +36,7 @@ loop-less : tie.Need-loop-smaller invariant-loop decreases-loop
 loop-less c = search rules
 
 loop-again : tie.Need-loop-preserved invariant-loop decreases-loop
-loop-again c = (search rules, filled_more 9 _ _ c.before.before.loop.first _ c.before.before.loop.invariant.1 (omega arith) c.first-turn.ensures)
+loop-again c = (search rules, filled_more 9 _ _ c.before.before.loop.first _ c.before.before.loop.invariant.1 (omega arith) c.first_turn.ensures)
 
 returns : tie.Need-returns invariant-loop decreases-loop
 returns c = record { begins = λ j h. c.before.loop.invariant.1.1 j (omega arith) }

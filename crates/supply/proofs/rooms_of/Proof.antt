@@ -3,7 +3,7 @@ use Prim.Native.Nat.{ℕ, ◌*◌, ◌-◌, ◌≤◌, ◌<◌}
 use native.Mathlib.Omega.{arith}
 use borrow.Author.Rules.{rules}
 use lib.ListN.{get_or}
-use Rattle.octets.proofs.Fitting.{product-most}
+use Rattle.octets.proofs.Fitting.{product_most}
 use Rattle.supply.proofs.rooms_of.Statement.{statement}
 use Rattle.supply.proofs.rooms_of.Tie as tie
 
@@ -24,7 +24,7 @@ element-copy-out-by-lower c = omega arith
 
 -- pulls and caps are numbers of two bytes
 size : (pull cap x : ℕ) → pull < 65536 → cap < 65536 → pull * (cap - x) ≤ 4294836225
-size pull cap x p q = product-most 65535 65535 (omega arith) (omega arith)
+size pull cap x p q = product_most 65535 65535 (omega arith) (omega arith)
 
 sub-by-lower : tie.Need-overflow-sub-by-lower
 sub-by-lower c = rw (c.before.before.cap-within.ensures.0, c.before.before.before.to-within.ensures.0) c.before.before.before.before.before.requires.4

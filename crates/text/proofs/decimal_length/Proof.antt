@@ -4,7 +4,7 @@ use Prim.Native.Nat.{◌+◌, ◌<◌, ◌^◌}
 use native.Mathlib.Omega.{arith}
 use lib.ListN.{length}
 use Rattle.listing_text.specs.Text.{decimal}
-use Rattle.listing_text.proofs.Digits.{length-one, length-step, decimal-fits}
+use Rattle.listing_text.proofs.Digits.{length_one, length_step, decimal_fits}
 use Rattle.text.proofs.decimal_length.Statement.{statement}
 use Rattle.text.proofs.decimal_length.Tie as tie
 
@@ -19,18 +19,18 @@ loop-holds : tie.Need-loop-init invariant-loop decreases-loop
 loop-holds c = omega arith
 
 add-k : tie.Need-overflow-add-k invariant-loop decreases-loop
-add-k c = omega (arith, decimal-fits c.before.before.args.n)
+add-k c = omega (arith, decimal_fits c.before.before.args.n)
 
 loop-less : tie.Need-loop-smaller invariant-loop decreases-loop
 loop-less c = omega arith
 
 loop-again : tie.Need-loop-preserved invariant-loop decreases-loop
-loop-again c = omega (arith, length-step c.before.loop.left (omega arith) (omega arith))
+loop-again c = omega (arith, length_step c.before.loop.left (omega arith) (omega arith))
 
 returns : tie.Need-returns invariant-loop decreases-loop
 returns c =
-    let one : length (decimal c.before.loop.left) ≡ 1 = length-one c.before.loop.left (omega arith) in
-    omega (arith, decimal-fits c.before.before.args.n)
+    let one : length (decimal c.before.loop.left) ≡ 1 = length_one c.before.loop.left (omega arith) in
+    omega (arith, decimal_fits c.before.before.args.n)
 
 pub decimal-length-spec : {M : Type 1} → statement M
 decimal-length-spec =

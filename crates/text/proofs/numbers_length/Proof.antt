@@ -4,15 +4,15 @@ use Prim.Native.Nat.{◌+◌, ◌*◌, ◌-◌, ◌≤◌}
 use native.Mathlib.Omega.{arith}
 use borrow.Author.Rules.{rules}
 use lib.ListN.{length, drop}
-use Rattle.text.specs.NumberLines.{numbersLine}
-use Rattle.text.proofs.Numbers.{length-numbers, numbers-end}
+use Rattle.text.specs.NumberLines.{numbers_line}
+use Rattle.text.proofs.Numbers.{length_numbers, numbers_end}
 use Rattle.text.proofs.numbers_length.Statement.{statement}
 use Rattle.text.proofs.numbers_length.Tie as tie
 
 -- what is counted and the numbers from here on are the whole line
 abbrev invariant-loop : tie.invariant-loop
 invariant-loop numbers total₀ i₀ total i =
-    (i ≤ length numbers) × (total ≤ 11 * i) × (total + length (numbersLine (drop i numbers)) ≡ length (numbersLine numbers))
+    (i ≤ length numbers) × (total ≤ 11 * i) × (total + length (numbers_line (drop i numbers)) ≡ length (numbers_line numbers))
 
 abbrev decreases-loop : tie.decreases-loop
 decreases-loop numbers total₀ i₀ total i = length numbers - i
@@ -45,10 +45,10 @@ loop-again : tie.Need-loop-preserved invariant-loop decreases-loop
 loop-again c =
     let l = c.before.before.before.loop in
     let a = c.before.before.before.before.before.args in
-    omega (arith, length-numbers a.numbers.now l.i (omega arith))
+    omega (arith, length_numbers a.numbers.now l.i (omega arith))
 
 returns : tie.Need-returns invariant-loop decreases-loop
-returns c = omega (arith, ap length (numbers-end c.before.before.before.args.numbers.now c.before.loop.i (omega arith)))
+returns c = omega (arith, ap length (numbers_end c.before.before.before.args.numbers.now c.before.loop.i (omega arith)))
 
 pub numbers-length-spec : {M : Type 1} → statement M
 numbers-length-spec =

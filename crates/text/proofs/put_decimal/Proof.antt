@@ -6,8 +6,8 @@ use borrow.Author.Rules.{rules}
 use lib.ListN.{length, length-set}
 use Rattle.listing_text.specs.Text.{decimal}
 use Rattle.text.specs.TextPut.{written}
-use Rattle.listing_text.proofs.Digits.{length-step, decimal-least}
-use Rattle.text.proofs.Digits.{digit-stored, digit-last}
+use Rattle.listing_text.proofs.Digits.{length_step, decimal_least}
+use Rattle.text.proofs.Digits.{digit_stored, digit_last}
 use Rattle.text.proofs.put_decimal.Statement.{statement}
 use Rattle.text.proofs.put_decimal.Tie as tie
 
@@ -27,11 +27,11 @@ add-end : tie.Need-overflow-add-end invariant-loop decreases-loop
 add-end c = omega arith
 
 sub-i : tie.Need-overflow-sub-i invariant-loop decreases-loop
-sub-i c = omega (arith, decimal-least c.before.before.args.n)
+sub-i c = omega (arith, decimal_least c.before.before.args.n)
 
 loop-holds : tie.Need-loop-init invariant-loop decreases-loop
 loop-holds c =
-    let least = decimal-least c.before.before.args.n in
+    let least = decimal_least c.before.before.args.n in
     (omega arith, omega arith, omega arith, refl, refl)
 
 digit-requires : tie.Need-digit-requires invariant-loop decreases-loop
@@ -43,7 +43,7 @@ slice-write-buffer c = omega arith
 sub-i-2 : tie.Need-overflow-sub-i-2 invariant-loop decreases-loop
 sub-i-2 c =
     let l = c.before.before.loop in
-    omega (arith, length-step l.left (omega arith) (omega arith), decimal-least (l.left / 10))
+    omega (arith, length_step l.left (omega arith) (omega arith), decimal_least (l.left / 10))
 
 loop-less : tie.Need-loop-smaller invariant-loop decreases-loop
 loop-less c = omega arith
@@ -51,9 +51,9 @@ loop-less c = omega arith
 loop-again : tie.Need-loop-preserved invariant-loop decreases-loop
 loop-again c =
     let l = c.before.before.loop in
-    let step = length-step l.left (omega arith) (omega arith) in
-    let least = decimal-least (l.left / 10) in
-    (omega arith, omega arith, simp length-set (omega arith), simp length-set (omega arith), digit-stored l.buffer _ l.left l.i _ (omega arith) (omega arith) (omega arith) (omega arith) c.digit.ensures ∙ l.invariant.4)
+    let step = length_step l.left (omega arith) (omega arith) in
+    let least = decimal_least (l.left / 10) in
+    (omega arith, omega arith, simp length-set (omega arith), simp length-set (omega arith), digit_stored l.buffer _ l.left l.i _ (omega arith) (omega arith) (omega arith) (omega arith) c.digit.ensures ∙ l.invariant.4)
 
 digit-requires-2 : tie.Need-digit-requires-2 invariant-loop decreases-loop
 digit-requires-2 c κs = omega arith
@@ -67,7 +67,7 @@ same_length c = simp length-set (omega arith)
 returns : tie.Need-returns invariant-loop decreases-loop
 returns c =
     let l = c.before.before.loop in
-    record { bytes = digit-last l.buffer _ l.left l.i _ (omega arith) (omega arith) (omega arith) c.digit2.ensures ∙ l.invariant.4; place = omega arith }
+    record { bytes = digit_last l.buffer _ l.left l.i _ (omega arith) (omega arith) (omega arith) c.digit2.ensures ∙ l.invariant.4; place = omega arith }
 
 pub put-decimal-spec : {M : Type 1} → statement M
 put-decimal-spec =

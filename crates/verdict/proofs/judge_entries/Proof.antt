@@ -5,24 +5,24 @@ use native.Mathlib.Omega.{arith}
 use lib.ListN.{length}
 use borrow.Author.Rules.{rules}
 use Rattle.certificate.specs.declared.Report.{Report}
-use Rattle.certificate.specs.Layout.{entriesOf}
-use Rattle.judging.specs.EntryTests.{judgingFrom}
-use Rattle.judging.specs.Overflow.{overflowsBefore}
-use Rattle.judging.proofs.Overflows.{overflows-before-most}
-use Rattle.verdict.proofs.Chaining.{next-entry, stop-entry, end-entries, one_more, none_before}
+use Rattle.certificate.specs.Layout.{entries_of}
+use Rattle.judging.specs.EntryTests.{judging_from}
+use Rattle.judging.specs.Overflow.{overflows_before}
+use Rattle.judging.proofs.Overflows.{overflows_before_most}
+use Rattle.verdict.proofs.Chaining.{next_entry, stop_entry, end_entries, one_more, none_before}
 use Rattle.verdict.proofs.judge_entries.Statement.{statement}
 use Rattle.verdict.proofs.judge_entries.Tie as tie
 
 abbrev invariant-loop : tie.invariant-loop
 invariant-loop s layout counts caps turns ranks digits edges arrivals runs₀ entries count₀ overflows₀ e₀ runs count overflows e =
-    (judgingFrom s e count ≡ judgingFrom s 0 0) × (count ≤ 32768 * e) × (entries ≡ entriesOf s) × (entries ≤ 4096) × (length runs ≡ 4096)
-    × (overflows ≡ overflowsBefore s e) × (e ≤ entries)
+    (judging_from s e count ≡ judging_from s 0 0) × (count ≤ 32768 * e) × (entries ≡ entries_of s) × (entries ≤ 4096) × (length runs ≡ 4096)
+    × (overflows ≡ overflows_before s e) × (e ≤ entries)
 
 abbrev decreases-loop : tie.decreases-loop
 decreases-loop s layout counts caps turns ranks digits edges arrivals runs₀ entries count₀ overflows₀ e₀ runs count overflows e = entries - e
 
 loop-holds : tie.Need-loop-init invariant-loop decreases-loop
-loop-holds c = (refl, omega arith, c.before.before.requires.0.entries-are, c.before.before.requires.0.entries-most, c.before.before.requires.5, none_before _, omega arith)
+loop-holds c = (refl, omega arith, c.before.before.requires.0.entries_are, c.before.before.requires.0.entries_most, c.before.before.requires.5, none_before _, omega arith)
 
 judge-entry-requires : tie.Need-judge-entry-requires invariant-loop decreases-loop
 judge-entry-requires c κs = let w = c.before.before.loop.invariant in
@@ -42,7 +42,7 @@ returns c =
     let bad = c.before.if1.true in
     let verdict = c.refused.ensures in
     record {
-      report-is = verdict.0 ∙ stop-entry _ _ _ _ w.2 _ _ c.before.before.before.before.before.before.before.before.loop-test.true r.0 bad w.0;
+      report_is = verdict.0 ∙ stop_entry _ _ _ _ w.2 _ _ c.before.before.before.before.before.before.before.before.loop-test.true r.0 bad w.0;
       counted = λ z. absurd (bad (sym (ap (λ (q : Report). q.number) verdict.0) ∙ z));
       none = λ _. verdict.1;
     }
@@ -55,7 +55,7 @@ add_overflows c =
     let l = c.before.before.before.before.before.before.before.before.before.loop in
     let s = c.before.before.before.before.before.before.before.before.before.before.before.before.args.s.now in
     let next = one_more s l.e l.invariant.5 (c.before.before.before.before.before.before.judge-entry.ensures.3 c.before.if1.false) c.counted.ensures in
-    omega (arith, next, overflows-before-most s (l.e + 1), l.invariant.6, l.invariant.3)
+    omega (arith, next, overflows_before_most s (l.e + 1), l.invariant.6, l.invariant.3)
 
 add-e : tie.Need-overflow-add-e invariant-loop decreases-loop
 add-e c = omega arith
@@ -68,7 +68,7 @@ loop-again c =
     let w = c.before.before.before.before.before.before.before.before.before.loop.invariant in
     let r = c.before.before.before.before.before.before.judge-entry.ensures in
     let passed = c.before.if1.false in (
-      next-entry _ _ _ _ w.2 _ _ _ c.before.before.before.before.before.before.before.before.loop-test.true r.0 passed refl w.0,
+      next_entry _ _ _ _ w.2 _ _ _ c.before.before.before.before.before.before.before.before.loop-test.true r.0 passed refl w.0,
       r.1,
       w.2,
       w.3,
@@ -86,9 +86,9 @@ same-length-2 c = omega (arith, c.before.before.loop.invariant.4, c.before.befor
 returns-2 : tie.Need-returns-2 invariant-loop decreases-loop
 returns-2 c =
     let w = c.before.before.loop.invariant in
-    let entries : c.before.before.loop.e ≡ entriesOf c.before.before.before.before.before.args.s.now = omega (arith, c.before.loop-test.false, w.2, w.6) in
+    let entries : c.before.before.loop.e ≡ entries_of c.before.before.before.before.before.args.s.now = omega (arith, c.before.loop-test.false, w.2, w.6) in
     record {
-      report-is = end-entries _ _ _ _ w.2 _ _ c.before.loop-test.false c.report2.ensures w.0;
+      report_is = end_entries _ _ _ _ w.2 _ _ c.before.loop-test.false c.report2.ensures w.0;
       counted = λ _. rw entries at w.5;
       none = λ bad. absurd (bad (ap (λ (q : Report). q.number) c.report2.ensures));
     }

@@ -1,8 +1,8 @@
 -- `verdict::judge_entry` meets its contract. Assumes nothing.
 use mathlib.Core.Path.{refl}
 use native.Mathlib.Omega.{arith}
-use Rattle.verdict.proofs.Chaining.{not-standing, searched}
-use Rattle.entry_standing.proofs.EdgeLimits.{standing-count}
+use Rattle.verdict.proofs.Chaining.{not_standing, searched}
+use Rattle.entry_standing.proofs.EdgeLimits.{standing_count}
 use borrow.Author.Rules.{rules}
 use Rattle.verdict.proofs.judge_entry.Statement.{statement}
 use Rattle.verdict.proofs.judge_entry.Tie as tie
@@ -28,7 +28,7 @@ standing-requires c κs = let p = c.before.before.before.before.before.before.be
 returns : tie.Need-returns
 returns c = let f = c.before.before.standing in
     let p = c.before.before.before.before.before.before.before.before.before.before.before.requires in
-    (not-standing _ _ _ _ f.ensures c.if1.true, omega (arith, standing-count _ _ _ _ f.ensures, p.5), p.7, λ z. absurd (c.if1.true z))
+    (not_standing _ _ _ _ f.ensures c.if1.true, omega (arith, standing_count _ _ _ _ f.ensures, p.5), p.7, λ z. absurd (c.if1.true z))
 
 entry-ends-requires : tie.Need-entry-ends-requires
 entry-ends-requires c κs = let p = c.before.before.before.before.before.before.before.before.before.before.before.before.before.before.before.requires in

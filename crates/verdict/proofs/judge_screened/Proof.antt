@@ -36,7 +36,7 @@ judge-entries-requires c κs = let p = c.before.before.before.before.before.befo
   p.1,
   record {
     screened = p.0;
-    grid = record { readable = p.0.readable; count = c.before.before.before.before.before.before.before.before.before.before.before.before.before.before.before.before.before.before.before.Counts-of.ensures; link = p.1.links-are };
+    grid = record { readable = p.0.readable; count = c.before.before.before.before.before.before.before.before.before.before.before.before.before.before.before.before.before.before.before.Counts-of.ensures; link = p.1.links_are };
     cap = c.before.before.before.before.before.before.before.before.before.before.before.before.before.before.before.before.before.before.caps-of.ensures;
     edge = c.before.before.before.before.before.before.before.before.before.before.before.before.edges-of.ensures;
     arrival = c.before.before.before.before.before.before.before.before.before.before.before.arrivals-of.ensures;

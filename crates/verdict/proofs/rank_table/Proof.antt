@@ -1,5 +1,5 @@
 -- `verdict::rank_table` meets its contract. Assumes nothing.
-use Rattle.rank_tables.proofs.Finding.{cells-ascend}
+use Rattle.rank_tables.proofs.Finding.{cells_ascend}
 use borrow.Author.Rules.{rules}
 use Rattle.verdict.proofs.rank_table.Statement.{statement}
 use Rattle.verdict.proofs.rank_table.Tie as tie
@@ -11,7 +11,7 @@ fill-ranks-requires : tie.Need-fill-ranks-requires
 fill-ranks-requires c κs =
     let p = c.before.before.before.before.before.requires in
     let Y = p.1 in
-    (Y.entries-start-most, Y.entries-start-is, Y.entries-most, Y.entries-are, cells-ascend _ p.0, c.before.before.index_of.ensures, Y.modes-most, Y.modes-are, Y.cells-least, Y.cells-most, Y.cells_are, p.2)
+    (Y.entries_start_most, Y.entries_start_is, Y.entries_most, Y.entries_are, cells_ascend _ p.0, c.before.before.index_of.ensures, Y.modes_most, Y.modes_are, Y.cells_least, Y.cells_most, Y.cells_are, p.2)
 
 same_length : tie.Need-same-length
 same_length c = search rules

@@ -1,6 +1,6 @@
 -- `asking::proper::is_proper` meets its contract. Assumes nothing.
 use Rattle.certificate.specs.Octets.{◌also◌}
-use Rattle.judging.specs.Asking.{isProper}
+use Rattle.judging.specs.Asking.{is_proper}
 use borrow.Author.Rules.{rules}
 use Rattle.asking.proofs.proper.is_proper.Statement.{statement}
 use Rattle.asking.proofs.proper.is_proper.Tie as tie
@@ -9,8 +9,8 @@ queues-fit-requires : tie.Need-queues-fit-requires
 queues-fit-requires c κs = search rules
 
 returns : tie.Need-returns
-unfolding isProper ◌also◌
-returns c = rw (c.queues-fit.ensures, c.before.before.before.requires.1)
+unfolding is_proper ◌also◌
+returns c = rw (c.queues_fit.ensures, c.before.before.before.requires.1)
 
 pub is-proper-spec : {M : Type 1} → statement M
 is-proper-spec = tie.close (tie.spec queues-fit-requires returns)

@@ -2,8 +2,8 @@
 use Prim.Native.Nat.{◌+◌, ◌*◌}
 use mathlib.Core.Path.{◌≡◌}
 use Rattle.certificate.specs.Checks.{marked, opened}
-use Rattle.certificate.specs.Layout.{linksOf, arrivalAt, arrivalSize}
-use Rattle.certificate.specs.Records.{arrivalFault}
+use Rattle.certificate.specs.Layout.{links_of, arrival_at, arrival_size}
+use Rattle.certificate.specs.Records.{arrival_fault}
 use Rattle.octets.proofs.Cases.{first, second, opened-whole}
 use native.Mathlib.Omega.{arith}
 use borrow.Author.Rules.{rules}
@@ -13,7 +13,7 @@ use Rattle.box_records.proofs.arrivals.check_arrival.Tie as tie
 -- what the test of the opening answered
 opening-said : (c : tie.After-check-opened) →
     let a = c.before.before.before.before.args in
-    let o = arrivalAt a.s.now a.b in c.check-opened.result ≡ opened a.s.now o (marked a.s.now o 65 82) (arrivalSize (linksOf a.s.now))
+    let o = arrival_at a.s.now a.b in c.check-opened.result ≡ opened a.s.now o (marked a.s.now o 65 82) (arrival_size (links_of a.s.now))
 opening-said c = rw (← c.before.before.before.before.requires.2, ← c.before.before.before.before.requires.4, ← c.before.before.arrival-at.ensures.0, ← c.before.marked-as.ensures) c.check-opened.ensures
 
 arrival-at-requires : tie.Need-arrival-at-requires
@@ -32,7 +32,7 @@ check-opened-requires : tie.Need-check-opened-requires
 check-opened-requires c κs = search rules
 
 returns : tie.Need-returns
-unfolding arrivalFault
+unfolding arrival_fault
 returns c = first _ _ _ (opening-said c.before.before) c.if1.true
 
 check-ranges-requires : tie.Need-check-ranges-requires
@@ -42,7 +42,7 @@ check-ranges-requires c κs =
     (search rules, search rules, search rules, search rules, search rules, omega (arith, whole, opening.before.before.arrival-at.ensures.0))
 
 returns-2 : tie.Need-returns-2
-unfolding arrivalFault
+unfolding arrival_fault
 returns-2 c = second _ _ _ _ (opening-said c.before.before.before) c.before.if1.false (rw (← c.before.before.before.before.before.before.before.requires.2) c.check-ranges.ensures)
 
 pub check-arrival-spec : {M : Type 1} → statement M

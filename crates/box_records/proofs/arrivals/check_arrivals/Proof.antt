@@ -2,14 +2,14 @@
 use Prim.Native.Nat.{◌-◌}
 use mathlib.Core.Path.{◌≡◌}
 use borrow.Author.Rules.{rules}
-use Rattle.certificate.specs.Checks.{firstFrom}
-use Rattle.certificate.specs.Records.{arrivalFault}
+use Rattle.certificate.specs.Checks.{first_from}
+use Rattle.certificate.specs.Records.{arrival_fault}
 use Rattle.octets.proofs.Cases.{go_on, stop, end}
 use Rattle.box_records.proofs.arrivals.check_arrivals.Statement.{statement}
 use Rattle.box_records.proofs.arrivals.check_arrivals.Tie as tie
 
 abbrev invariant-loop : tie.invariant-loop
-invariant-loop s start links boxes b₀ b = firstFrom boxes (arrivalFault s) b ≡ firstFrom boxes (arrivalFault s) 0
+invariant-loop s start links boxes b₀ b = first_from boxes (arrival_fault s) b ≡ first_from boxes (arrival_fault s) 0
 
 abbrev decreases-loop : tie.decreases-loop
 decreases-loop s start links boxes b₀ b = boxes - b

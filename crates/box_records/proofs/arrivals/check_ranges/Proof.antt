@@ -2,14 +2,14 @@
 use Prim.Native.Nat.{◌-◌}
 use mathlib.Core.Path.{◌≡◌}
 use borrow.Author.Rules.{rules}
-use Rattle.certificate.specs.Checks.{firstFrom}
-use Rattle.certificate.specs.Records.{rangeFault}
+use Rattle.certificate.specs.Checks.{first_from}
+use Rattle.certificate.specs.Records.{range_fault}
 use Rattle.octets.proofs.Cases.{go_on, stop, end}
 use Rattle.box_records.proofs.arrivals.check_ranges.Statement.{statement}
 use Rattle.box_records.proofs.arrivals.check_ranges.Tie as tie
 
 abbrev invariant-loop : tie.invariant-loop
-invariant-loop s start links b l₀ l = firstFrom links (rangeFault s b) l ≡ firstFrom links (rangeFault s b) 0
+invariant-loop s start links b l₀ l = first_from links (range_fault s b) l ≡ first_from links (range_fault s b) 0
 
 abbrev decreases-loop : tie.decreases-loop
 decreases-loop s start links b l₀ l = links - l

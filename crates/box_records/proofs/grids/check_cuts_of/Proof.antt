@@ -1,5 +1,5 @@
 -- `box_records::grids::check_cuts_of` meets its contract. Assumes nothing.
-use Rattle.box_records.proofs.Grid.{cuts-absent, cuts-present}
+use Rattle.box_records.proofs.Grid.{cuts_absent, cuts_present}
 use borrow.Author.Rules.{rules}
 use Rattle.box_records.proofs.grids.check_cuts_of.Statement.{statement}
 use Rattle.box_records.proofs.grids.check_cuts_of.Tie as tie
@@ -20,7 +20,7 @@ refuse-requires : tie.Need-refuse-requires
 refuse-requires c κs = search rules
 
 returns : tie.Need-returns
-returns c = search cuts-absent
+returns c = search cuts_absent
 
 cap-of-requires : tie.Need-cap-of-requires
 cap-of-requires c κs = search rules
@@ -32,7 +32,7 @@ check-cuts-requires : tie.Need-check-cuts-requires
 check-cuts-requires c κs = search rules
 
 returns-2 : tie.Need-returns-2
-returns-2 c = search cuts-present
+returns-2 c = search cuts_present
 
 pub check-cuts-of-spec : {M : Type 1} → statement M
 check-cuts-of-spec =

@@ -1,5 +1,5 @@
 -- `box_records::grids::check_grid` meets its contract. Assumes nothing.
-use Rattle.box_records.proofs.Grid.{grid-unopened, grid-counted}
+use Rattle.box_records.proofs.Grid.{grid_unopened, grid_counted}
 use borrow.Author.Rules.{rules}
 use Rattle.box_records.proofs.grids.check_grid.Statement.{statement}
 use Rattle.box_records.proofs.grids.check_grid.Tie as tie
@@ -11,7 +11,7 @@ check-opened-requires : tie.Need-check-opened-requires
 check-opened-requires c κs = search rules
 
 returns : tie.Need-returns
-returns c = search grid-unopened
+returns c = search grid_unopened
 
 count-ok-requires : tie.Need-count-ok-requires
 count-ok-requires c κs = search rules
@@ -26,7 +26,7 @@ or-else-requires : tie.Need-or-else-requires
 or-else-requires c κs = search rules
 
 returns-2 : tie.Need-returns-2
-returns-2 c = search grid-counted depth 6
+returns-2 c = search grid_counted depth 6
 
 pub check-grid-spec : {M : Type 1} → statement M
 check-grid-spec =

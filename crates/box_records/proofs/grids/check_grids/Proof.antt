@@ -3,17 +3,17 @@ use Prim.Native.Nat.{◌-◌, ◌≤◌}
 use mathlib.Core.Path.{◌≡◌}
 use native.Mathlib.Omega.{arith}
 use borrow.Author.Rules.{rules}
-use Rattle.certificate.specs.Checks.{firstFrom}
-use Rattle.certificate.specs.Records.{gridFault}
+use Rattle.certificate.specs.Checks.{first_from}
+use Rattle.certificate.specs.Records.{grid_fault}
 use Rattle.box_records.specs.GridRecords.{GridsLaid}
 use Rattle.octets.proofs.Cases.{go_on, stop, end}
-use Rattle.box_records.proofs.Products.{product-fits}
+use Rattle.box_records.proofs.Products.{product_fits}
 use Rattle.box_records.proofs.GridPlaces.{laid_none, laid_next, laid_end}
 use Rattle.box_records.proofs.grids.check_grids.Statement.{statement}
 use Rattle.box_records.proofs.grids.check_grids.Tie as tie
 
 abbrev invariant-loop : tie.invariant-loop
-invariant-loop s start links places₀ at₀ product₀ l₀ places at product l = (firstFrom links (gridFault s) l ≡ firstFrom links (gridFault s) 0) × GridsLaid s l places at product × (l ≤ links)
+invariant-loop s start links places₀ at₀ product₀ l₀ places at product l = (first_from links (grid_fault s) l ≡ first_from links (grid_fault s) 0) × GridsLaid s l places at product × (l ≤ links)
 
 abbrev decreases-loop : tie.decreases-loop
 decreases-loop s start links places₀ at₀ product₀ l₀ places at product l = links - l
@@ -28,7 +28,7 @@ returns : tie.Need-returns invariant-loop decreases-loop
 returns c =
     let turn = c.before.before in
     record {
-      report-is = stop _ _ _ _ _ turn.before.loop-test.true turn.check-grid.ensures c.if1.true turn.before.before.loop.invariant.0;
+      report_is = stop _ _ _ _ _ turn.before.loop-test.true turn.check-grid.ensures c.if1.true turn.before.before.loop.invariant.0;
       laid = λ z. absurd (c.if1.true z);
     }
 
@@ -42,7 +42,7 @@ count-at-requires : tie.Need-count-at-requires invariant-loop decreases-loop
 count-at-requires c κs = search rules
 
 mul-product : tie.Need-overflow-mul-product invariant-loop decreases-loop
-mul-product c = search (product-fits, rules)
+mul-product c = search (product_fits, rules)
 
 mul_at : tie.Need-overflow-mul-at invariant-loop decreases-loop
 mul_at c = search rules
@@ -75,7 +75,7 @@ returns-2 : tie.Need-returns-2 invariant-loop decreases-loop
 returns-2 c =
     let inv = c.before.before.loop.invariant in
     record {
-      report-is = end _ _ _ _ _ c.before.loop-test.false c.accept.ensures inv.0;
+      report_is = end _ _ _ _ _ c.before.loop-test.false c.accept.ensures inv.0;
       laid = λ z. laid_end _ inv.1 c.before.loop-test.false inv.2;
     }
 

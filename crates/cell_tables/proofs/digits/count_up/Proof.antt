@@ -5,8 +5,8 @@ use mathlib.Core.Path.{◌≡◌}
 use native.Mathlib.Omega.{arith}
 use borrow.Author.Rules.{rules}
 use lib.ListN.{get_or, set}
-use Rattle.certificate.specs.Layout.{maxIntervals, intervalsOf}
-use Rattle.cell_tables.proofs.Counting.{Row, Counted, interval-small, count-start, count-end, count-stop, count-on}
+use Rattle.certificate.specs.Layout.{max_intervals, intervals_of}
+use Rattle.cell_tables.proofs.Counting.{Row, Counted, interval_small, count_start, count_end, count_stop, count_on}
 use Rattle.cell_tables.proofs.digits.count_up.Statement.{statement}
 use Rattle.cell_tables.proofs.digits.count_up.Tie as tie
 
@@ -21,20 +21,20 @@ module _ (a : tie.Start invariant-loop decreases-loop) (l : ℕ) (x : List ℕ) 
   here : Counted a.args.s.now a.args.cell (suc (l - 1)) x
   here = let e : l ≡ suc (l - 1) = omega arith in rw e at inv
 
-  count : get_or a.args.counts.now (l - 1) 0 ≡ intervalsOf a.args.s.now (l - 1)
+  count : get_or a.args.counts.now (l - 1) 0 ≡ intervals_of a.args.s.now (l - 1)
   count = a.pre.0.count (l - 1) (omega (arith, inv.most))
 
-  small : get_or x (l - 1) 0 < maxIntervals
-  small = interval-small a.args.s.now a.pre.0.readable a.args.cell (l - 1) x here
+  small : get_or x (l - 1) 0 < max_intervals
+  small = interval_small a.args.s.now a.pre.0.readable a.args.cell (l - 1) x here
 
-  goes-up : get_or x (l - 1) 0 + 1 < get_or a.args.counts.now (l - 1) 0 → Row a.args.s.now (a.args.cell + 1) (set x (l - 1) (get_or x (l - 1) 0 + 1))
-  goes-up lt = count-stop a.args.s.now a.pre.0.readable a.args.cell (l - 1) x here (omega (arith, count))
+  goes_up : get_or x (l - 1) 0 + 1 < get_or a.args.counts.now (l - 1) 0 → Row a.args.s.now (a.args.cell + 1) (set x (l - 1) (get_or x (l - 1) 0 + 1))
+  goes_up lt = count_stop a.args.s.now a.pre.0.readable a.args.cell (l - 1) x here (omega (arith, count))
 
   is_zero : get_or a.args.counts.now (l - 1) 0 ≤ get_or x (l - 1) 0 + 1 → Counted a.args.s.now a.args.cell (l - 1) (set x (l - 1) 0)
-  is_zero le = count-on a.args.s.now a.pre.0.readable a.args.cell (l - 1) x here (omega (arith, count))
+  is_zero le = count_on a.args.s.now a.pre.0.readable a.args.cell (l - 1) x here (omega (arith, count))
 
 loop-holds : tie.Need-loop-init invariant-loop decreases-loop
-loop-holds c = let a = c.before in count-start a.args.s.now a.requires.0.readable a.args.cell _ _ a.requires.0.link (a.requires.1, a.requires.2)
+loop-holds c = let a = c.before in count_start a.args.s.now a.requires.0.readable a.args.cell _ _ a.requires.0.link (a.requires.1, a.requires.2)
 
 sub-l : tie.Need-overflow-sub-l invariant-loop decreases-loop
 sub-l c = omega arith
@@ -58,7 +58,7 @@ element-write-intervals : tie.Need-element-write-intervals invariant-loop decrea
 element-write-intervals c = omega arith
 
 returns : tie.Need-returns invariant-loop decreases-loop
-returns c = let l = c.before.before.before.before.before in goes-up l.before.before _ _ (omega arith) l.loop.invariant (omega arith)
+returns c = let l = c.before.before.before.before.before in goes_up l.before.before _ _ (omega arith) l.loop.invariant (omega arith)
 
 element-write-intervals-2 : tie.Need-element-write-intervals-2 invariant-loop decreases-loop
 element-write-intervals-2 c = omega arith
@@ -70,7 +70,7 @@ loop-again : tie.Need-loop-preserved invariant-loop decreases-loop
 loop-again c = let l = c.before.before.before.before.before in is_zero l.before.before _ _ (omega arith) l.loop.invariant (omega arith)
 
 returns-2 : tie.Need-returns-2 invariant-loop decreases-loop
-returns-2 c = let a = c.before.before.before in count-end a.args.s.now a.requires.0.readable a.args.cell _ _ (omega arith) c.before.loop.invariant
+returns-2 c = let a = c.before.before.before in count_end a.args.s.now a.requires.0.readable a.args.cell _ _ (omega arith) c.before.loop.invariant
 
 pub count-up-spec : {M : Type 1} → statement M
 count-up-spec =

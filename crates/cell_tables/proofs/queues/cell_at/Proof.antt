@@ -5,10 +5,10 @@ use mathlib.Core.Path.{◌≡◌, refl, ap, ◌∙◌}
 use native.Mathlib.Omega.{arith}
 use borrow.Author.Rules.{rules}
 use lib.ListN.{get_or}
-use Rattle.certificate.specs.Layout.{maxCells, linksOf, countAt}
+use Rattle.certificate.specs.Layout.{max_cells, links_of, count_at}
 use Rattle.grid.specs.Cells.{number_of, cell_at}
-use Rattle.cell_tables.proofs.Filling.{grid-place}
-use Rattle.cell_tables.proofs.Locating.{placed, placed-here, placed-choice, number-next, number-all}
+use Rattle.cell_tables.proofs.Filling.{grid_place_lem}
+use Rattle.cell_tables.proofs.Locating.{placed, placed_here, placed_choice, number_next, number_all}
 use Rattle.cell_tables.proofs.queues.cell_at.Statement.{statement}
 use Rattle.cell_tables.proofs.queues.cell_at.Tie as tie
 
@@ -32,14 +32,14 @@ turn c = c.before.before.before.before.before.before
 -- the number with one link more, and that it fits
 next : (c : tie.After-interval-at invariant-loop decreases-loop)
     → ((turn c).loop.cell * c.before.count_at.result + c.interval-at.result ≡ number_of (start c).args.s.now (located (start c).args.s.now (start c).args.scale (start c).args.queues.now) ((turn c).loop.l + 1))
-    × ((turn c).loop.cell * c.before.count_at.result + c.interval-at.result ≤ maxCells)
+    × ((turn c).loop.cell * c.before.count_at.result + c.interval-at.result ≤ max_cells)
 next c =
     let l = turn c in
     let a = start c in
     let s = a.args.s.now in
     let o = a.pre.1 l.loop.l (omega arith) in
-    let e = placed-here s (λ _. a.args.scale) (λ k. get_or a.args.queues.now k 0) l.loop.l _ _ _ _ o l.before.wide-quad.ensures.0 c.before.before.wide-quad2.ensures.0 c.interval-at.ensures in
-    number-next s a.pre.0 _ l.loop.l _ _ _ (omega arith) (λ k h. placed-choice s a.pre.0 _ _ a.pre.5 k (omega arith)) l.loop.inv.1 (c.before.count_at.ensures.0 ∙ ap (countAt s) o) e
+    let e = placed_here s (λ _. a.args.scale) (λ k. get_or a.args.queues.now k 0) l.loop.l _ _ _ _ o l.before.wide-quad.ensures.0 c.before.before.wide-quad2.ensures.0 c.interval-at.ensures in
+    number_next s a.pre.0 _ l.loop.l _ _ _ (omega arith) (λ k h. placed_choice s a.pre.0 _ _ a.pre.5 k (omega arith)) l.loop.inv.1 (c.before.count_at.ensures.0 ∙ ap (count_at s) o) e
 
 wide-quad-requires : tie.Need-wide-quad-requires invariant-loop decreases-loop
 wide-quad-requires c κs = search rules
@@ -68,14 +68,14 @@ count-at-requires c κs =
     let l = c.before.before.before.before in
     let a = l.before.before.before.before in
     let s = a.args.s.now in
-    omega (arith, a.requires.1 l.loop.l (omega arith), grid-place s a.requires.0 l.loop.l (omega arith))
+    omega (arith, a.requires.1 l.loop.l (omega arith), grid_place_lem s a.requires.0 l.loop.l (omega arith))
 
 interval-at-requires : tie.Need-interval-at-requires invariant-loop decreases-loop
 interval-at-requires c κs =
     let l = c.before.before.before.before.before in
     let a = l.before.before.before.before in
     let s = a.args.s.now in
-    (omega (arith, a.requires.1 l.loop.l (omega arith), grid-place s a.requires.0 l.loop.l (omega arith)), omega (arith, l.before.wide-quad.ensures.0, a.requires.4))
+    (omega (arith, a.requires.1 l.loop.l (omega arith), grid_place_lem s a.requires.0 l.loop.l (omega arith)), omega (arith, l.before.wide-quad.ensures.0, a.requires.4))
 
 with-link-requires : tie.Need-with-link-requires invariant-loop decreases-loop
 with-link-requires c κs = (next c).1
@@ -95,9 +95,9 @@ returns c =
     let l = c.before in
     let a = l.before.before.before.before in
     let s = a.args.s.now in
-    let all : l.loop.l ≡ linksOf s = omega arith in
+    let all : l.loop.l ≡ links_of s = omega arith in
     let e = rw all at l.loop.invariant.1 in
-    (e, number-all s a.requires.0 _ (placed-choice s a.requires.0 (λ _. a.args.scale) (λ k. get_or a.args.queues.now k 0) a.requires.5) _ e)
+    (e, number_all s a.requires.0 _ (placed_choice s a.requires.0 (λ _. a.args.scale) (λ k. get_or a.args.queues.now k 0) a.requires.5) _ e)
 
 pub cell-at-spec : {M : Type 1} → statement M
 cell-at-spec =

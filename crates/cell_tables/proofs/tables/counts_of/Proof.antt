@@ -3,14 +3,14 @@ use Prim.Native.Nat.{◌-◌}
 use mathlib.Core.Path.{refl, ap, ◌∙◌}
 use native.Mathlib.Omega.{arith}
 use borrow.Author.Count.{below_none}
-use Rattle.certificate.specs.Layout.{countAt, intervalsOf}
+use Rattle.certificate.specs.Layout.{count_at, intervals_of}
 use Rattle.octets.proofs.FilledTables.{Filled, filled_more}
-use Rattle.cell_tables.proofs.Filling.{grid-place}
+use Rattle.cell_tables.proofs.Filling.{grid_place_lem}
 use Rattle.cell_tables.proofs.tables.counts_of.Statement.{statement}
 use Rattle.cell_tables.proofs.tables.counts_of.Tie as tie
 
 abbrev invariant-loop : tie.invariant-loop
-invariant-loop s places links counts₀ l₀ counts l = Filled 8 l (intervalsOf s) counts
+invariant-loop s places links counts₀ l₀ counts l = Filled 8 l (intervals_of s) counts
 
 abbrev decreases-loop : tie.decreases-loop
 decreases-loop s places links counts₀ l₀ counts l = links - l
@@ -25,7 +25,7 @@ element-copy-out-count-at : tie.Need-element-copy-out-count-at invariant-loop de
 element-copy-out-count-at c = omega arith
 
 count-at-requires : tie.Need-count-at-requires invariant-loop decreases-loop
-count-at-requires c κs = let l = c.before.before in let a = l.before.before in omega (arith, a.requires.1 l.loop.l (omega arith), grid-place a.args.s.now a.requires.0 l.loop.l (omega arith))
+count-at-requires c κs = let l = c.before.before in let a = l.before.before in omega (arith, a.requires.1 l.loop.l (omega arith), grid_place_lem a.args.s.now a.requires.0 l.loop.l (omega arith))
 
 mul-counts : tie.Need-overflow-mul-counts invariant-loop decreases-loop
 mul-counts c = omega arith
@@ -40,7 +40,7 @@ loop-less : tie.Need-loop-smaller invariant-loop decreases-loop
 loop-less c = omega arith
 
 loop-again : tie.Need-loop-preserved invariant-loop decreases-loop
-loop-again c = let l = c.before.before.before in let a = l.before.before in filled_more 8 _ _ l.loop.counts _ l.loop.invariant (omega arith) (c.count_at.ensures.0 ∙ ap (countAt a.args.s.now) (a.requires.1 l.loop.l (omega arith)))
+loop-again c = let l = c.before.before.before in let a = l.before.before in filled_more 8 _ _ l.loop.counts _ l.loop.invariant (omega arith) (c.count_at.ensures.0 ∙ ap (count_at a.args.s.now) (a.requires.1 l.loop.l (omega arith)))
 
 returns : tie.Need-returns invariant-loop decreases-loop
 returns c = λ k lt. c.before.loop.invariant.1 k (omega arith)

@@ -3,14 +3,14 @@ use Prim.Native.Nat.{◌*◌, ◌-◌, ◌/◌, ◌<◌}
 use mathlib.Core.Path.{refl}
 use native.Mathlib.Omega.{arith}
 use borrow.Author.Count.{below_none}
-use Rattle.certificate.specs.Layout.{linksOf}
+use Rattle.certificate.specs.Layout.{links_of}
 use Rattle.octets.proofs.FilledTables.{Filled, filled_more}
-use Rattle.cell_tables.proofs.Filling.{grid-place, edgeEntry, edges-filled}
+use Rattle.cell_tables.proofs.Filling.{grid_place_lem, edge_entry, edges_filled}
 use Rattle.cell_tables.proofs.tables.edges_of.Statement.{statement}
 use Rattle.cell_tables.proofs.tables.edges_of.Tie as tie
 
 abbrev invariant-loop : tie.invariant-loop
-invariant-loop s places links edges₀ k₀ k-end edges k = Filled 128 k (edgeEntry s) edges
+invariant-loop s places links edges₀ k₀ k-end edges k = Filled 128 k (edge_entry s) edges
 
 abbrev decreases-loop : tie.decreases-loop
 decreases-loop s places links edges₀ k₀ k-end edges k = k-end - k
@@ -31,9 +31,9 @@ edge-at-requires : tie.Need-edge-at-requires invariant-loop decreases-loop
 edge-at-requires c κs =
     let l = c.before.before in
     let a = l.before.before in
-    let lt : l.loop.k / 16 < linksOf a.args.s.now = omega arith in
+    let lt : l.loop.k / 16 < links_of a.args.s.now = omega arith in
     let e = a.requires.1 (l.loop.k / 16) lt in
-    (omega (arith, grid-place a.args.s.now a.requires.0 (l.loop.k / 16) lt), e, omega arith, omega arith)
+    (omega (arith, grid_place_lem a.args.s.now a.requires.0 (l.loop.k / 16) lt), e, omega arith, omega arith)
 
 mul-edges : tie.Need-overflow-mul-edges invariant-loop decreases-loop
 mul-edges c = omega arith
@@ -48,13 +48,13 @@ loop-less : tie.Need-loop-smaller invariant-loop decreases-loop
 loop-less c = omega arith
 
 loop-again : tie.Need-loop-preserved invariant-loop decreases-loop
-unfolding edgeEntry
+unfolding edge_entry
 loop-again c =
     let l = c.before.before.before in
     filled_more 128 _ _ l.loop.edges _ l.loop.invariant (omega arith) c.edge_at.ensures
 
 returns : tie.Need-returns invariant-loop decreases-loop
-returns c = let a = c.before.before.before in edges-filled a.args.s.now a.requires.0 _ (16 * a.args.links) (omega arith) (λ k lt. c.before.loop.invariant.1 k (omega arith))
+returns c = let a = c.before.before.before in edges_filled a.args.s.now a.requires.0 _ (16 * a.args.links) (omega arith) (λ k lt. c.before.loop.invariant.1 k (omega arith))
 
 pub edges-of-spec : {M : Type 1} → statement M
 edges-of-spec =

@@ -1,6 +1,6 @@
 -- `comparing::matching::matched_by` meets its contract. Assumes nothing.
 use borrow.Author.Rules.{rules}
-use Rattle.comparing.specs.Walk.{isMatchedBy}
+use Rattle.comparing.specs.Walk.{is_matched_by}
 use Rattle.comparing.proofs.matching.matched_by.Statement.{statement}
 use Rattle.comparing.proofs.matching.matched_by.Tie as tie
 use Rattle.comparing.proofs.matching.matched_by.Reads as reads
@@ -26,7 +26,7 @@ rank-of-requires-2 c κs = search rules
 
 -- src/matching.rt:38:1
 returns : tie.Need-returns
-unfolding isMatchedBy
+unfolding is_matched_by
 returns c = cc
 
 pub matched-by-spec : {M : Type 1} → statement M

@@ -1,10 +1,10 @@
 -- `controller::Controller::query` meets its contract. Assumes nothing.
 use mathlib.Core.Path.{◌≡◌, ap, ◌∙◌}
 use lib.ListN.{length}
-use Rattle.certificate.specs.Layout.{maxLength}
+use Rattle.certificate.specs.Layout.{max_length}
 use Rattle.asking.specs.declared.Found.{Found}
-use Rattle.controller.specs.Parts.{shownBy}
-use Rattle.controller.proofs.Held.{query-asks}
+use Rattle.controller.specs.Parts.{shown_by}
+use Rattle.controller.proofs.Held.{query_asks}
 use borrow.Author.Rules.{rules}
 use Rattle.controller.proofs.Controller.query.Statement.{statement}
 use Rattle.controller.proofs.Controller.query.Tie as tie
@@ -15,8 +15,8 @@ ask-requires c κs = search rules
 returns : tie.Need-returns
 returns c =
     let a = c.before.before.before.before.before.before.args in
-    let size : length a.t1.bytes ≡ maxLength = search rules in
-    ap (λ (f : Found). shownBy a.t1 f) c.before.ask.ensures ∙ query-asks a.t1 a.queues.now a.scale size
+    let size : length a.t1.bytes ≡ max_length = search rules in
+    ap (λ (f : Found). shown_by a.t1 f) c.before.ask.ensures ∙ query_asks a.t1 a.queues.now a.scale size
 
 pub query-spec : {M : Type 1} → statement M
 query-spec = tie.close (tie.spec ask-requires returns)

@@ -1,7 +1,7 @@
 -- `controller::writing::write_from` meets its contract. Assumes nothing.
 use mathlib.Core.Path.{sym, ◌∙◌}
-use Rattle.controller.proofs.Held.{held, not-held}
-use Rattle.controller.proofs.Writings.{none-held}
+use Rattle.controller.proofs.Held.{held, not_held}
+use Rattle.controller.proofs.Writings.{none_held}
 use borrow.Author.Rules.{rules}
 use Rattle.controller.proofs.writing.write_from.Statement.{statement}
 use Rattle.controller.proofs.writing.write_from.Tie as tie
@@ -17,8 +17,8 @@ returns c =
     let s = c.before.before.before.before.before.before.before in
     let a = s.args in
     let read = c.before.before.before.before.stored-reading in
-    let none = not-held a.bytes.now a.n s.requires read.ensures c.before.if1.true in
-    let w = none-held a.bytes.now a.n a.buffer.now a.start none in
+    let none = not_held a.bytes.now a.n s.requires read.ensures c.before.if1.true in
+    let w = none_held a.bytes.now a.n a.buffer.now a.start none in
     (c.refuse.ensures ∙ sym w.0, sym w.1)
 
 write-stored-requires : tie.Need-write-stored-requires

@@ -5,8 +5,8 @@ use borrow.Author.Tests.{leb-true}
 use Rattle.certificate.proofs.Tests.{and_both}
 use mathlib.Core.Path.{sym, ◌∙◌}
 use native.Mathlib.Omega.{arith}
-use Rattle.certificate.specs.Layout.{maxLength}
-use Rattle.controller.specs.State.{isCertificate}
+use Rattle.certificate.specs.Layout.{max_length}
+use Rattle.controller.specs.State.{is_certificate}
 use Rattle.octets.proofs.Copying.{put_back}
 use Rattle.controller.proofs.Writings.{wrote, too_short}
 use borrow.Author.Rules.{rules}
@@ -14,8 +14,8 @@ use Rattle.controller.proofs.writing.write_stored.Statement.{statement}
 use Rattle.controller.proofs.writing.write_stored.Tie as tie
 
 -- the certificate's length fits the array
-fits : (c : tie.Start) → c.args.n ≤ maxLength
-unfolding isCertificate
+fits : (c : tie.Start) → c.args.n ≤ max_length
+unfolding is_certificate
 fits c = leb-true _ _ (and_both _ _ c.requires.1).0
 
 refuse-requires : tie.Need-refuse-requires

@@ -8,9 +8,9 @@ use borrow.Author.Count.{below_none}
 use borrow.Author.Rules.{rules}
 use lib.Dec.{ltb}
 use lib.ListN.{length, get_or, length-set}
-use Rattle.certificate.specs.Loops.{anyTo}
-use Rattle.certificate.proofs.Loops.{any_none, any-more, any_same}
-use Rattle.octets.proofs.FilledTables.{Filled, filled_more, entries-more}
+use Rattle.certificate.specs.Loops.{any_to}
+use Rattle.certificate.proofs.Loops.{any_none, any_more, any_same}
+use Rattle.octets.proofs.FilledTables.{Filled, filled_more, entries_more}
 use Rattle.entry_search.proofs.boxes.ends_under.Statement.{statement}
 use Rattle.entry_search.proofs.boxes.ends_under.Tie as tie
 
@@ -25,7 +25,7 @@ abbrev invariant-loop : tie.invariant-loop
 invariant-loop links caps before arrivals at ends₀ over₀ any₀ l₀ ends over any l =
     Filled 8 l (λ k. min (get_or caps k 0) (uncut before arrivals at k)) ends
     × (length over ≡ 8) × ((k : ℕ) → k < l → get_or over k false ≡ exceeding caps before arrivals at k)
-    × (any ≡ anyTo l (exceeding caps before arrivals at)) × (l ≤ links)
+    × (any ≡ any_to l (exceeding caps before arrivals at)) × (l ≤ links)
 
 abbrev decreases-loop : tie.decreases-loop
 decreases-loop links caps before arrivals at ends₀ over₀ any₀ l₀ ends over any l = links - l
@@ -109,8 +109,8 @@ loop-again c =
     let v = w.loop.invariant in (
       filled_more 8 _ _ w.loop.ends _ v.0 (omega arith) c.before.before.before.before.end_of_lem.ensures,
       length-set w.loop.over w.loop.l c.exceeds.result ∙ v.1,
-      entries-more false (λ k q. q ≡ exceeding w.before.args.caps.now w.before.args.before.now w.before.args.arrivals.now w.before.args.at k) w.loop.l w.loop.over c.exceeds.result (omega (arith, v.1)) v.2 c.exceeds.ensures,
-      any-more _ w.loop.l v.3 c.exceeds.ensures,
+      entries_more false (λ k q. q ≡ exceeding w.before.args.caps.now w.before.args.before.now w.before.args.arrivals.now w.before.args.at k) w.loop.l w.loop.over c.exceeds.result (omega (arith, v.1)) v.2 c.exceeds.ensures,
+      any_more _ w.loop.l v.3 c.exceeds.ensures,
       omega arith,
     )
 

@@ -4,19 +4,19 @@ use mathlib.Core.Path.{◌≡◌, ◌∙◌}
 use native.Mathlib.Omega.{arith}
 use borrow.Author.Rules.{rules}
 use lib.ListN.{get_or}
-use Rattle.entry_search.specs.Search.{passes, columnPassing}
-use Rattle.entry_search.proofs.InBoxes.{many-most, sum-begins, sum_more}
+use Rattle.entry_search.specs.Search.{passes, column_passing}
+use Rattle.entry_search.proofs.InBoxes.{many_most, sum_begins, sum_more}
 use Rattle.entry_search.proofs.search.column_passed.Statement.{statement}
 use Rattle.entry_search.proofs.search.column_passed.Tie as tie
 
 abbrev invariant-loop : tie.invariant-loop
-invariant-loop s task ranks runs n j passed₀ i₀ passed i = (passed ≡ columnPassing s task.initial runs i j) × (i ≤ n)
+invariant-loop s task ranks runs n j passed₀ i₀ passed i = (passed ≡ column_passing s task.initial runs i j) × (i ≤ n)
 
 abbrev decreases-loop : tie.decreases-loop
 decreases-loop s task ranks runs n j passed₀ i₀ passed i = n - i
 
 loop-holds : tie.Need-loop-init invariant-loop decreases-loop
-loop-holds c = (sum-begins _, omega arith)
+loop-holds c = (sum_begins _, omega arith)
 
 mul-wide-pair : tie.Need-overflow-mul-wide-pair invariant-loop decreases-loop
 mul-wide-pair c = omega arith
@@ -31,17 +31,17 @@ wide-pair-requires c κs = search rules
 below : (c : tie.After-wide-pair invariant-loop decreases-loop) → c.wide-pair.result + c.before.before.before.before.before.before.args.j < c.before.before.before.before.before.before.args.task.cells
 below c = let l = c.before.before.before.loop in omega (arith, c.wide-pair.ensures.0, c.before.before.before.before.before.before.requires.4 l.i (omega arith))
 
-next : (c : tie.After-passing invariant-loop decreases-loop) → c.before.before.before.before.loop.passed + c.passing.result ≡ columnPassing c.before.before.before.before.before.before.before.args.s.now c.before.before.before.before.before.before.before.args.task.entry c.before.before.before.before.before.before.before.args.runs.now (c.before.before.before.before.loop.i + 1) c.before.before.before.before.before.before.before.args.j
+next : (c : tie.After-passing invariant-loop decreases-loop) → c.before.before.before.before.loop.passed + c.passing.result ≡ column_passing c.before.before.before.before.before.before.before.args.s.now c.before.before.before.before.before.before.before.args.task.entry c.before.before.before.before.before.before.before.args.runs.now (c.before.before.before.before.loop.i + 1) c.before.before.before.before.before.before.before.args.j
 next c = sum_more _ _ _ _ c.before.before.before.before.loop.invariant.0 (c.passing.ensures ∙ rw c.before.wide-pair.ensures.0)
 
 add-passing : tie.Need-overflow-add-passing invariant-loop decreases-loop
-add-passing c = let a = c.before.before.before.before.before.before in omega (arith, below c, a.requires.0.cells-most)
+add-passing c = let a = c.before.before.before.before.before.before in omega (arith, below c, a.requires.0.cells_most)
 
 passing-requires : tie.Need-passing-requires invariant-loop decreases-loop
 passing-requires c κs = let a = c.before.before.before.before.before.before in (a.requires.0, a.requires.1, below c)
 
 add-passed : tie.Need-overflow-add-passed invariant-loop decreases-loop
-add-passed c = omega (arith, next c, many-most (c.before.before.before.before.loop.i + 1) (λ k. passes c.before.before.before.before.before.before.before.args.s.now c.before.before.before.before.before.before.before.args.task.entry (get_or c.before.before.before.before.before.before.before.args.runs.now k 0 + c.before.before.before.before.before.before.before.args.j)), c.before.before.before.before.before.before.before.requires.2)
+add-passed c = omega (arith, next c, many_most (c.before.before.before.before.loop.i + 1) (λ k. passes c.before.before.before.before.before.before.before.args.s.now c.before.before.before.before.before.before.before.args.task.entry (get_or c.before.before.before.before.before.before.before.args.runs.now k 0 + c.before.before.before.before.before.before.before.args.j)), c.before.before.before.before.before.before.before.requires.2)
 
 add-i : tie.Need-overflow-add-i invariant-loop decreases-loop
 add-i c = omega arith

@@ -1,7 +1,7 @@
 -- `entry_search::search::passing` meets its contract. Assumes nothing.
 use borrow.Author.Rules.{rules}
 use native.Mathlib.Omega.{arith}
-use Rattle.entry_search.proofs.Successors.{none_passes, higher-passes, lower-passes}
+use Rattle.entry_search.proofs.Successors.{none_passes, higher_passes, lower_passes}
 use Rattle.entry_search.proofs.search.passing.Statement.{statement}
 use Rattle.entry_search.proofs.search.passing.Tie as tie
 
@@ -30,13 +30,13 @@ returns-2 : tie.Need-returns-2
 returns-2 c =
     let a = c.before.before.before.before.before.before.before in
     let v = c.before.before.before.wide-quad.ensures in
-    rw (higher-passes a.requires.0 a.args.ranks.now a.requires.1 _ a.requires.2 _ v.0 (omega (arith, v.1)) c.before.before.if1.false c.before.wide-quad2.ensures.0 c.if2.true)
+    rw (higher_passes a.requires.0 a.args.ranks.now a.requires.1 _ a.requires.2 _ v.0 (omega (arith, v.1)) c.before.before.if1.false c.before.wide-quad2.ensures.0 c.if2.true)
 
 returns-3 : tie.Need-returns-3
 returns-3 c =
     let a = c.before.before.before.before.before.before.before in
     let v = c.before.before.before.wide-quad.ensures in
-    rw (lower-passes a.requires.0 a.args.ranks.now a.requires.1 _ a.requires.2 _ v.0 (omega (arith, v.1)) c.before.before.if1.false c.before.wide-quad2.ensures.0 c.if2.false)
+    rw (lower_passes a.requires.0 a.args.ranks.now a.requires.1 _ a.requires.2 _ v.0 (omega (arith, v.1)) c.before.before.if1.false c.before.wide-quad2.ensures.0 c.if2.false)
 
 pub passing-spec : {M : Type 1} → statement M
 passing-spec =

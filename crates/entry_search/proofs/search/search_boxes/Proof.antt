@@ -7,18 +7,18 @@ use lib.ListN.{length}
 use borrow.Author.Rules.{rules}
 use Rattle.certificate.specs.declared.Report.{Report}
 use Rattle.certificate.specs.Checks.{fine}
-use Rattle.certificate.specs.Layout.{cells_of, boxesOf}
-use Rattle.certificate.specs.Loops.{anyTo}
-use Rattle.certificate.proofs.Loops.{any_none, any-more}
-use Rattle.judging.specs.Overflow.{boxOverflows}
-use Rattle.entry_search.proofs.Overflowing.{all-boxes}
-use Rattle.entry_search.proofs.InBoxes.{AtBox, InBox, box-none, box-begins, box-shut, total-most, cell-more, cell-stops, box-end}
+use Rattle.certificate.specs.Layout.{cells_of, boxes_of}
+use Rattle.certificate.specs.Loops.{any_to}
+use Rattle.certificate.proofs.Loops.{any_none, any_more}
+use Rattle.judging.specs.Overflow.{box_overflows}
+use Rattle.entry_search.proofs.Overflowing.{all_boxes}
+use Rattle.entry_search.proofs.InBoxes.{AtBox, InBox, box_none, box_begins, box_shut, total_most, cell_more, cell_stops, box_end}
 use Rattle.entry_search.proofs.search.search_boxes.Statement.{statement}
 use Rattle.entry_search.proofs.search.search_boxes.Tie as tie
 
 abbrev invariant-loop : tie.invariant-loop
 invariant-loop s task links caps counts ranks digits edges arrivals runs low high count found₀ total₀ over first last b exceeds d₀ b_end found total d =
-    InBox s task.initial count b total d × (found ≡ fine) × (over ≡ anyTo (b + 1) (boxOverflows s task.initial))
+    InBox s task.initial count b total d × (found ≡ fine) × (over ≡ any_to (b + 1) (box_overflows s task.initial))
 
 abbrev decreases-loop : tie.decreases-loop
 decreases-loop s task links caps counts ranks digits edges arrivals runs low high count found₀ total₀ over first last b exceeds d₀ b_end found total d =
@@ -26,7 +26,7 @@ decreases-loop s task links caps counts ranks digits edges arrivals runs low hig
 
 abbrev invariant-search : tie.invariant-search
 invariant-search s task links caps counts ranks digits edges arrivals runs₀ low high count found₀ total₀ over₀ first₀ last₀ b₀ b_end runs found total over first last b =
-    AtBox s task.initial count b total × (found ≡ fine) × (b ≤ task.boxes) × (length runs ≡ 4096) × (over ≡ anyTo b (boxOverflows s task.initial)) × (length first ≡ 8) × (length last ≡ 8)
+    AtBox s task.initial count b total × (found ≡ fine) × (b ≤ task.boxes) × (length runs ≡ 4096) × (over ≡ any_to b (box_overflows s task.initial)) × (length first ≡ 8) × (length last ≡ 8)
 
 abbrev decreases-search : tie.decreases-search
 decreases-search s task links caps counts ranks digits edges arrivals runs₀ low high count found₀ total₀ over₀ first₀ last₀ b₀ b_end runs found total over first last b =
@@ -36,7 +36,7 @@ accept-requires : tie.Need-accept-requires invariant-loop decreases-loop invaria
 accept-requires c κs = search rules
 
 search-holds : tie.Need-search-init invariant-loop decreases-loop invariant-search decreases-search
-search-holds c = let p = c.before.before.before.requires in (box-none _ _ _ p.5, c.accept.ensures, omega arith, p.6, any_none _, refl, refl)
+search-holds c = let p = c.before.before.before.requires in (box_none _ _ _ p.5, c.accept.ensures, omega arith, p.6, any_none _, refl, refl)
 
 box-ranges-requires : tie.Need-box-ranges-requires invariant-loop decreases-loop invariant-search decreases-search
 box-ranges-requires c κs =
@@ -59,10 +59,10 @@ add_total c =
     let K = a.requires.3 in
     let s = a.args.s.now in
     let h = c.before.before.before.before.before.before.before.before.before.before.search-test.true in
-    let lt : q.b < boxesOf s = omega (arith, h, K.boxes-is) in
-    let few : cells_of s ≤ 4096 = omega (arith, K.cells_is, K.cells-most) in
+    let lt : q.b < boxes_of s = omega (arith, h, K.boxes_is) in
+    let few : cells_of s ≤ 4096 = omega (arith, K.cells_is, K.cells_most) in
     let C = c.before.before.before.whole-box.ensures.0 in
-    omega (arith, K.entry-most, K.boxes-most, h, few, q.invariant.0.most, C.most, C.inside)
+    omega (arith, K.entry_most, K.boxes_most, h, few, q.invariant.0.most, C.most, C.inside)
 
 loop-holds : tie.Need-loop-init invariant-loop decreases-loop invariant-search decreases-search
 loop-holds c =
@@ -71,9 +71,9 @@ loop-holds c =
     let K = a.requires.3 in
     let s = a.args.s.now in
     let h = c.before.before.before.before.before.before.before.before.before.before.search-test.true in
-    let lt : q.b < boxesOf s = omega (arith, h, K.boxes-is) in
-    let few : cells_of s ≤ 4096 = omega (arith, K.cells_is, K.cells-most) in
-    (box-begins s _ _ _ _ _ _ lt q.invariant.0 c.before.before.before.whole-box.ensures.0, q.invariant.1, any-more (boxOverflows _ _) _ q.invariant.4 c.before.before.before.before.before.before.before.box-ranges.ensures.3)
+    let lt : q.b < boxes_of s = omega (arith, h, K.boxes_is) in
+    let few : cells_of s ≤ 4096 = omega (arith, K.cells_is, K.cells_most) in
+    (box_begins s _ _ _ _ _ _ lt q.invariant.0 c.before.before.before.whole-box.ensures.0, q.invariant.1, any_more (box_overflows _ _) _ q.invariant.4 c.before.before.before.before.before.before.before.box-ranges.ensures.3)
 
 look-requires : tie.Need-look-requires invariant-loop decreases-loop invariant-search decreases-search
 look-requires c κs =
@@ -88,12 +88,12 @@ add-total-2 c =
     let K = a.requires.3 in
     let s = a.args.s.now in
     let h = c.before.before.before.before.before.before.before.before.before.before.before.before.before.before.before.before.before.search-test.true in
-    let lt : q.b < boxesOf s = omega (arith, h, K.boxes-is) in
-    let few : cells_of s ≤ 4096 = omega (arith, K.cells_is, K.cells-most) in
+    let lt : q.b < boxes_of s = omega (arith, h, K.boxes_is) in
+    let few : cells_of s ≤ 4096 = omega (arith, K.cells_is, K.cells_most) in
     let l = c.before.before.before.before.before.before.loop in
     let e = c.before.look.ensures in
     let below : l.d < cells_of s = omega (arith, c.before.before.before.before.if1.true, K.cells_is) in
-    omega (arith, K.entry-most, K.boxes-most, h, few, total-most s _ _ _ _ l.d _ _ below l.invariant.0 e.0 e.1)
+    omega (arith, K.entry_most, K.boxes_most, h, few, total_most s _ _ _ _ l.d _ _ below l.invariant.0 e.0 e.1)
 
 report-requires : tie.Need-report-requires invariant-loop decreases-loop invariant-search decreases-search
 report-requires c κs =
@@ -102,10 +102,10 @@ report-requires c κs =
     let K = a.requires.3 in
     let s = a.args.s.now in
     let h = c.before.before.before.before.before.before.before.before.before.before.before.before.before.before.before.before.before.before.before.search-test.true in
-    let lt : q.b < boxesOf s = omega (arith, h, K.boxes-is) in
-    let few : cells_of s ≤ 4096 = omega (arith, K.cells_is, K.cells-most) in
+    let lt : q.b < boxes_of s = omega (arith, h, K.boxes_is) in
+    let few : cells_of s ≤ 4096 = omega (arith, K.cells_is, K.cells_most) in
     let l = c.before.before.before.before.before.before.before.before.loop in
-    (omega (arith, K.entry-most), omega (arith, few, l.invariant.0.inside))
+    (omega (arith, K.entry_most), omega (arith, few, l.invariant.0.inside))
 
 add-d : tie.Need-overflow-add-d invariant-loop decreases-loop invariant-search decreases-search
 add-d c =
@@ -114,8 +114,8 @@ add-d c =
     let K = a.requires.3 in
     let s = a.args.s.now in
     let h = c.before.before.before.before.before.before.before.before.before.before.before.before.before.before.before.before.before.before.before.search-test.true in
-    let lt : q.b < boxesOf s = omega (arith, h, K.boxes-is) in
-    let few : cells_of s ≤ 4096 = omega (arith, K.cells_is, K.cells-most) in
+    let lt : q.b < boxes_of s = omega (arith, h, K.boxes_is) in
+    let few : cells_of s ≤ 4096 = omega (arith, K.cells_is, K.cells_most) in
     let l = c.before.before.before.before.before.before.before.before.loop in
     omega (arith, few, l.invariant.0.inside)
 
@@ -129,12 +129,12 @@ loop-again c =
     let K = a.requires.3 in
     let s = a.args.s.now in
     let h = c.before.before.before.before.before.before.before.before.before.before.before.before.before.before.before.before.before.before.before.search-test.true in
-    let lt : q.b < boxesOf s = omega (arith, h, K.boxes-is) in
-    let few : cells_of s ≤ 4096 = omega (arith, K.cells_is, K.cells-most) in
+    let lt : q.b < boxes_of s = omega (arith, h, K.boxes_is) in
+    let few : cells_of s ≤ 4096 = omega (arith, K.cells_is, K.cells_most) in
     let l = c.before.before.before.before.before.before.before.before.loop in
     let e = c.before.before.before.look.ensures in
     let below : l.d < cells_of s = omega (arith, c.before.before.before.before.before.before.if1.true, K.cells_is) in
-    (cell-more s _ _ _ _ l.d _ _ below l.invariant.0 e.0 e.1 c.if2.false, l.invariant.1, l.invariant.2)
+    (cell_more s _ _ _ _ l.d _ _ below l.invariant.0 e.0 e.1 c.if2.false, l.invariant.1, l.invariant.2)
 
 add-b : tie.Need-overflow-add-b invariant-loop decreases-loop invariant-search decreases-search
 add-b c =
@@ -143,9 +143,9 @@ add-b c =
     let K = a.requires.3 in
     let s = a.args.s.now in
     let h = c.before.before.before.before.before.before.before.before.before.before.before.before.before.search-test.true in
-    let lt : q.b < boxesOf s = omega (arith, h, K.boxes-is) in
-    let few : cells_of s ≤ 4096 = omega (arith, K.cells_is, K.cells-most) in
-    omega (arith, h, K.boxes-most)
+    let lt : q.b < boxes_of s = omega (arith, h, K.boxes_is) in
+    let few : cells_of s ≤ 4096 = omega (arith, K.cells_is, K.cells_most) in
+    omega (arith, h, K.boxes_most)
 
 search-less : tie.Need-search-smaller invariant-loop decreases-loop invariant-search decreases-search
 search-less c = omega (arith, c.before.before.before.before.before.before.before.before.before.before.before.before.before.search-test.true)
@@ -157,11 +157,11 @@ search-again c =
     let K = a.requires.3 in
     let s = a.args.s.now in
     let h = c.before.before.before.before.before.before.before.before.before.before.before.before.before.search-test.true in
-    let lt : q.b < boxesOf s = omega (arith, h, K.boxes-is) in
-    let few : cells_of s ≤ 4096 = omega (arith, K.cells_is, K.cells-most) in
+    let lt : q.b < boxes_of s = omega (arith, h, K.boxes_is) in
+    let few : cells_of s ≤ 4096 = omega (arith, K.cells_is, K.cells_most) in
     let l = c.before.before.loop in
     let r = c.before.before.before.before.before.before.before.before.before.before.box-ranges.ensures in
-    (box-shut s _ _ _ _ _ few (omega (arith, c.if1.false, K.cells_is)) l.invariant.0, l.invariant.1, omega (arith, h), c.before.before.before.before.before.before.whole-box.ensures.1, l.invariant.2, r.1, r.2)
+    (box_shut s _ _ _ _ _ few (omega (arith, c.if1.false, K.cells_is)) l.invariant.0, l.invariant.1, omega (arith, h), c.before.before.before.before.before.before.whole-box.ensures.1, l.invariant.2, r.1, r.2)
 
 same_length : tie.Need-same-length invariant-loop decreases-loop invariant-search decreases-search
 same_length c = omega (arith, c.before.search.invariant.3, c.before.before.before.before.before.requires.6)
@@ -172,8 +172,8 @@ returns c =
     let a = c.before.before.before.before.before in
     let K = a.requires.3 in
     let s = a.args.s.now in
-    let ge : boxesOf s ≤ q.b = omega (arith, c.search-test.false, K.boxes-is) in
-    (rw q.invariant.1 (box-end s _ _ _ _ ge q.invariant.0), omega (arith, q.invariant.0.most, q.invariant.2, K.boxes-most), q.invariant.3, λ _. all-boxes _ _ _ (omega (arith, q.invariant.2, ge, K.boxes-is)) q.invariant.4)
+    let ge : boxes_of s ≤ q.b = omega (arith, c.search-test.false, K.boxes_is) in
+    (rw q.invariant.1 (box_end s _ _ _ _ ge q.invariant.0), omega (arith, q.invariant.0.most, q.invariant.2, K.boxes_most), q.invariant.3, λ _. all_boxes _ _ _ (omega (arith, q.invariant.2, ge, K.boxes_is)) q.invariant.4)
 
 same-length-2 : tie.Need-same-length-2 invariant-loop decreases-loop invariant-search decreases-search
 same-length-2 c = omega (arith, c.before.before.before.before.before.before.before.before.before.before.before.before.before.whole-box.ensures.1, c.before.before.before.before.before.before.before.before.before.before.before.before.before.before.before.before.before.before.before.before.before.before.before.before.before.requires.6)
@@ -185,14 +185,14 @@ returns-2 c =
     let K = a.requires.3 in
     let s = a.args.s.now in
     let h = c.before.before.before.before.before.before.before.before.before.before.before.before.before.before.before.before.before.before.before.before.search-test.true in
-    let lt : q.b < boxesOf s = omega (arith, h, K.boxes-is) in
-    let few : cells_of s ≤ 4096 = omega (arith, K.cells_is, K.cells-most) in
+    let lt : q.b < boxes_of s = omega (arith, h, K.boxes_is) in
+    let few : cells_of s ≤ 4096 = omega (arith, K.cells_is, K.cells_most) in
     let l = c.before.before.before.before.before.before.before.before.before.loop in
     let e = c.before.before.before.before.look.ensures in
     let bad = c.before.if2.true in
     let below : l.d < cells_of s = omega (arith, c.before.before.before.before.before.before.before.if1.true, K.cells_is) in
-    let most = total-most s _ _ _ _ l.d _ _ below l.invariant.0 e.0 e.1 in
-    (rw c.report.ensures (cell-stops s _ _ _ _ l.d _ _ below l.invariant.0 e.0 e.1 bad), omega (arith, most, h, few, K.boxes-most), c.before.before.before.before.before.before.before.before.before.before.before.before.before.whole-box.ensures.1, λ z. absurd (bad (ap (λ (x : Report). x.number) (sym c.report.ensures) ∙ z)))
+    let most = total_most s _ _ _ _ l.d _ _ below l.invariant.0 e.0 e.1 in
+    (rw c.report.ensures (cell_stops s _ _ _ _ l.d _ _ below l.invariant.0 e.0 e.1 bad), omega (arith, most, h, few, K.boxes_most), c.before.before.before.before.before.before.before.before.before.before.before.before.before.whole-box.ensures.1, λ z. absurd (bad (ap (λ (x : Report). x.number) (sym c.report.ensures) ∙ z)))
 
 pub search-boxes-spec : {M : Type 1} → statement M
 search-boxes-spec =

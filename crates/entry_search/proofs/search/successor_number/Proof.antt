@@ -1,7 +1,7 @@
 -- `entry_search::search::successor_number` meets its contract. Assumes nothing.
 use borrow.Author.Rules.{rules}
 use native.Mathlib.Omega.{arith}
-use Rattle.entry_search.proofs.Successors.{is-unlisted, is-higher, is-met}
+use Rattle.entry_search.proofs.Successors.{is_unlisted, is_higher, is_met}
 use Rattle.entry_search.proofs.search.successor_number.Statement.{statement}
 use Rattle.entry_search.proofs.search.successor_number.Tie as tie
 
@@ -25,21 +25,21 @@ returns c =
     let asked = c.before in
     let a = asked.before.before.before.before.before in
     let v = asked.before.wide-quad.ensures in
-    is-met a.requires.0 a.args.ranks.now a.requires.1 _ a.requires.2 _ v.0 (omega (arith, v.1)) asked.wide-quad2.ensures.0 c.if1.true
+    is_met a.requires.0 a.args.ranks.now a.requires.1 _ a.requires.2 _ v.0 (omega (arith, v.1)) asked.wide-quad2.ensures.0 c.if1.true
 
 returns-2 : tie.Need-returns-2
 returns-2 c =
     let asked = c.before.before in
     let a = asked.before.before.before.before.before in
     let v = asked.before.wide-quad.ensures in
-    is-unlisted a.requires.0 a.args.ranks.now a.requires.1 _ a.requires.2 _ v.0 (omega (arith, v.1)) c.if2.true
+    is_unlisted a.requires.0 a.args.ranks.now a.requires.1 _ a.requires.2 _ v.0 (omega (arith, v.1)) c.if2.true
 
 returns-3 : tie.Need-returns-3
 returns-3 c =
     let asked = c.before.before in
     let a = asked.before.before.before.before.before in
     let v = asked.before.wide-quad.ensures in
-    is-higher a.requires.0 a.args.ranks.now a.requires.1 _ a.requires.2 _ v.0 (omega (arith, v.1)) c.if2.false asked.wide-quad2.ensures.0 c.before.if1.false
+    is_higher a.requires.0 a.args.ranks.now a.requires.1 _ a.requires.2 _ v.0 (omega (arith, v.1)) c.if2.false asked.wide-quad2.ensures.0 c.before.if1.false
 
 pub successor-number-spec : {M : Type 1} → statement M
 successor-number-spec =

@@ -1,5 +1,5 @@
 -- `entry_setup::amounts::amount_at` meets its contract. Assumes nothing.
-use Rattle.entry_setup.specs.Tables.{arrivalEntry}
+use Rattle.entry_setup.specs.Tables.{arrival_entry}
 use borrow.Author.Rules.{rules}
 use Rattle.entry_setup.proofs.amounts.amount_at.Statement.{statement}
 use Rattle.entry_setup.proofs.amounts.amount_at.Tie as tie
@@ -23,7 +23,7 @@ mul-result : tie.Need-overflow-mul-result
 mul-result c = search rules
 
 returns : tie.Need-returns
-unfolding arrivalEntry
+unfolding arrival_entry
 returns c = cc
 
 pub amount-at-spec : {M : Type 1} → statement M

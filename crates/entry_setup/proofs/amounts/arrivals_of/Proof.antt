@@ -5,13 +5,13 @@ use native.Mathlib.Omega.{arith}
 use borrow.Author.Count.{below_none}
 use borrow.Author.Rules.{rules}
 use Rattle.octets.proofs.FilledTables.{Filled, filled_more}
-use Rattle.entry_setup.specs.Tables.{arrivalEntry}
-use Rattle.entry_setup.proofs.Arrivals.{arrivals-filled}
+use Rattle.entry_setup.specs.Tables.{arrival_entry}
+use Rattle.entry_setup.proofs.Arrivals.{arrivals_filled}
 use Rattle.entry_setup.proofs.amounts.arrivals_of.Statement.{statement}
 use Rattle.entry_setup.proofs.amounts.arrivals_of.Tie as tie
 
 abbrev invariant-loop : tie.invariant-loop
-invariant-loop s start links boxes amounts₀ k₀ k-end amounts k = Filled 128 k (arrivalEntry s) amounts
+invariant-loop s start links boxes amounts₀ k₀ k-end amounts k = Filled 128 k (arrival_entry s) amounts
 
 abbrev decreases-loop : tie.decreases-loop
 decreases-loop s start links boxes amounts₀ k₀ k-end amounts k = k-end - k
@@ -43,7 +43,7 @@ loop-again c = let l = c.before.before in
 
 returns : tie.Need-returns invariant-loop decreases-loop
 returns c = let a = c.before.before.before in
-    arrivals-filled a.args.s.now c.before.loop.amounts (16 * a.args.boxes) (omega arith) (omega arith) (λ k lt. c.before.loop.invariant.1 k (omega arith))
+    arrivals_filled a.args.s.now c.before.loop.amounts (16 * a.args.boxes) (omega arith) (omega arith) (λ k lt. c.before.loop.invariant.1 k (omega arith))
 
 pub arrivals-of-spec : {M : Type 1} → statement M
 arrivals-of-spec =

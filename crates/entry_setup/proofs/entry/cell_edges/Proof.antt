@@ -3,21 +3,21 @@ use Prim.Native.Nat.{◌-◌, ◌≤◌, ◌<◌}
 use mathlib.Core.Path.{ap, ◌∙◌}
 use native.Mathlib.Omega.{arith}
 use borrow.Author.Count.{below_none}
-use Rattle.certificate.specs.Layout.{linksOf}
-use Rattle.grid.specs.Intervals.{lowerEdge, upperEdge}
-use Rattle.grid.specs.Cells.{lowerOf, upperOf}
+use Rattle.certificate.specs.Layout.{links_of}
+use Rattle.grid.specs.Intervals.{lower_edge, upper_edge}
+use Rattle.grid.specs.Cells.{lower_of, upper_of}
 use Rattle.octets.proofs.FilledTables.{Filled, filled_more}
 use Rattle.entry_setup.proofs.entry.cell_edges.Statement.{statement}
 use Rattle.entry_setup.proofs.entry.cell_edges.Tie as tie
 
 abbrev invariant-loop : tie.invariant-loop
-invariant-loop s digits edges links cell lower₀ upper₀ l₀ lower upper l = Filled 8 l (lowerOf s cell) lower × Filled 8 l (upperOf s cell) upper × (l ≤ links) × (links ≤ 8)
+invariant-loop s digits edges links cell lower₀ upper₀ l₀ lower upper l = Filled 8 l (lower_of s cell) lower × Filled 8 l (upper_of s cell) upper × (l ≤ links) × (links ≤ 8)
 
 abbrev decreases-loop : tie.decreases-loop
 decreases-loop s digits edges links cell lower₀ upper₀ l₀ lower upper l = links - l
 
 loop-holds : tie.Need-loop-init invariant-loop decreases-loop
-loop-holds c = ((c.before.requires.5, below_none _), (c.before.requires.6, below_none _), omega arith, omega (arith, c.before.requires.3, c.before.requires.0.header.links-most))
+loop-holds c = ((c.before.requires.5, below_none _), (c.before.requires.6, below_none _), omega arith, omega (arith, c.before.requires.3, c.before.requires.0.header.links_most))
 
 interval-in-requires : tie.Need-interval-in-requires invariant-loop decreases-loop
 interval-in-requires c κs = let w = c.before in
@@ -73,11 +73,11 @@ loop-again : tie.Need-loop-preserved invariant-loop decreases-loop
 loop-again c = let w = c.before.before.before.before in
     let a = w.before.before in
     let s = a.args.s.now in
-    let hl : w.loop.l < linksOf s = omega (arith, a.requires.3) in
+    let hl : w.loop.l < links_of s = omega (arith, a.requires.3) in
     let most : w.loop.l < 8 = omega arith in
     let i = c.before.before.interval-in.ensures in (
-      filled_more 8 _ _ w.loop.lower _ w.loop.invariant.0 most (a.requires.2.lower w.loop.l _ hl i.1 ∙ ap (lowerEdge s w.loop.l) i.0),
-      filled_more 8 _ _ w.loop.upper _ w.loop.invariant.1 most (a.requires.2.upper w.loop.l _ hl i.1 ∙ ap (upperEdge s w.loop.l) i.0),
+      filled_more 8 _ _ w.loop.lower _ w.loop.invariant.0 most (a.requires.2.lower w.loop.l _ hl i.1 ∙ ap (lower_edge s w.loop.l) i.0),
+      filled_more 8 _ _ w.loop.upper _ w.loop.invariant.1 most (a.requires.2.upper w.loop.l _ hl i.1 ∙ ap (upper_edge s w.loop.l) i.0),
       omega arith,
       omega arith,
     )
@@ -86,7 +86,7 @@ returns : tie.Need-returns invariant-loop decreases-loop
 returns c = let w = c.before in
     let a = w.before.before in
     record {
-      lower-is = λ l lt. w.loop.invariant.0.1 l (omega (arith, a.requires.3));
+      lower_is = λ l lt. w.loop.invariant.0.1 l (omega (arith, a.requires.3));
       upper_is = λ l lt. w.loop.invariant.1.1 l (omega (arith, a.requires.3));
     }
 

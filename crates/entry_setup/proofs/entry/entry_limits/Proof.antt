@@ -1,6 +1,6 @@
 -- `entry_setup::entry::entry_limits` meets its contract. Assumes nothing.
-use Rattle.screening.proofs.Bounds.{link-whole}
-use Rattle.entry_setup.proofs.EntryEnds.{byte-is, limits-are, layout-network}
+use Rattle.screening.proofs.Bounds.{link_whole}
+use Rattle.entry_setup.proofs.EntryEnds.{byte_is, limits_are, layout_network}
 use borrow.Author.Rules.{rules}
 use Rattle.entry_setup.proofs.entry.entry_limits.Statement.{statement}
 use Rattle.entry_setup.proofs.entry.entry_limits.Tie as tie
@@ -12,14 +12,14 @@ green-byte-of-requires : tie.Need-green-byte-of-requires
 green-byte-of-requires c κs = search rules
 
 byte-before-requires : tie.Need-byte-before-requires
-byte-before-requires c κs = search byte-is
+byte-before-requires c κs = search byte_is
 
 limits-under-requires : tie.Need-limits-under-requires
 limits-under-requires c κs = let p = c.before.before.before.before.requires in
-    (p.1.links-most, link-whole (layout-network _ _ p.0 p.1))
+    (p.1.links_most, link_whole (layout_network _ _ p.0 p.1))
 
 returns : tie.Need-returns
-returns c = search limits-are
+returns c = search limits_are
 
 pub entry-limits-spec : {M : Type 1} → statement M
 entry-limits-spec =

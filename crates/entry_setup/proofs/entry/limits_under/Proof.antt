@@ -5,12 +5,12 @@ use native.Mathlib.Omega.{arith}
 use borrow.Author.Count.{below_none}
 use borrow.Author.Rules.{rules}
 use Rattle.octets.proofs.FilledTables.{Filled, filled_more}
-use Rattle.entry_setup.specs.Tables.{limitBy}
+use Rattle.entry_setup.specs.Tables.{limit_by}
 use Rattle.entry_setup.proofs.entry.limits_under.Statement.{statement}
 use Rattle.entry_setup.proofs.entry.limits_under.Tie as tie
 
 abbrev invariant-loop : tie.invariant-loop
-invariant-loop s links before byte limits₀ l₀ limits l = Filled 8 l (limitBy s before byte) limits
+invariant-loop s links before byte limits₀ l₀ limits l = Filled 8 l (limit_by s before byte) limits
 
 abbrev decreases-loop : tie.decreases-loop
 decreases-loop s links before byte limits₀ l₀ limits l = links - l

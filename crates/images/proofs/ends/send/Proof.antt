@@ -3,22 +3,22 @@ use Prim.Native.Nat.{◌+◌, ◌*◌, ◌≤◌}
 use mathlib.Core.Path.{◌≡◌, refl}
 use native.Mathlib.Omega.{arith}
 use borrow.Author.Rules.{rules}
-use Rattle.certificate.specs.Layout.{turnsOf}
+use Rattle.certificate.specs.Layout.{turns_of}
 use Rattle.supply.specs.Supply.{at}
-use Rattle.screening.proofs.Bounds.{links-most}
-use Rattle.images.proofs.Caps.{queue-most}
-use Rattle.images.proofs.Outward.{begin-most, begin-ascends}
-use Rattle.images.proofs.EndsLinkByLink.{side-red, side-green, side-whole}
-use Rattle.supply.proofs.TwoLeast.{two-same}
+use Rattle.screening.proofs.Bounds.{links_most}
+use Rattle.images.proofs.Caps.{queue_most}
+use Rattle.images.proofs.Outward.{begin_most, begin_ascends}
+use Rattle.images.proofs.EndsLinkByLink.{side_red, side_green, side_whole}
+use Rattle.supply.proofs.TwoLeast.{two_same}
 use Rattle.images.proofs.ends.send.Statement.{statement}
 use Rattle.images.proofs.ends.send.Tie as tie
 
 -- where the turns of the link begin and end
 ascends : (c : tie.Start) → at c.args.first.now c.args.l ≤ at c.args.first.now (c.args.l + 1)
-ascends c = begin-ascends _ _ c.requires.0.readable c.requires.1 c.args.l (omega (arith, links-most c.requires.0))
+ascends c = begin_ascends _ _ c.requires.0.readable c.requires.1 c.args.l (omega (arith, links_most c.requires.0))
 
-ends-within : (c : tie.Start) → at c.args.first.now (c.args.l + 1) ≤ turnsOf c.args.s.now
-ends-within c = begin-most _ _ c.requires.0.readable c.requires.1 (c.args.l + 1) (omega (arith, links-most c.requires.0))
+ends-within : (c : tie.Start) → at c.args.first.now (c.args.l + 1) ≤ turns_of c.args.s.now
+ends-within c = begin_most _ _ c.requires.0.readable c.requires.1 (c.args.l + 1) (omega (arith, links_most c.requires.0))
 
 mul-limit : tie.Need-overflow-mul-limit
 mul-limit c = search rules
@@ -31,7 +31,7 @@ returns c =
     let start = c.before.before.before in
     let R = start.requires.0.readable in
     let red : at start.args.limits.now start.args.l ≡ 0 = c.if1.true in
-    (side-red R start.requires.1 _ _ _ _ start.requires.4 _ red start.requires.6, side-red R start.requires.1 _ _ _ _ start.requires.4 _ red start.requires.7, start.requires.8, start.requires.9)
+    (side_red R start.requires.1 _ _ _ _ start.requires.4 _ red start.requires.6, side_red R start.requires.1 _ _ _ _ start.requires.4 _ red start.requires.7, start.requires.8, start.requires.9)
 
 mul-from : tie.Need-overflow-mul-from
 mul-from c = search rules
@@ -64,9 +64,9 @@ pass-on-requires c κs =
       ascends start,
       ends-within start,
       start.requires.4,
-      queue-most start.requires.0.readable start.requires.2 _ start.requires.4,
-      side-whole start.requires.0.readable start.requires.1 _ _ _ _ start.requires.4 start.requires.6,
-      two-same _ _ _ _ _ _ found.3 found.1.room,
+      queue_most start.requires.0.readable start.requires.2 _ start.requires.4,
+      side_whole start.requires.0.readable start.requires.1 _ _ _ _ start.requires.4 start.requires.6,
+      two_same _ _ _ _ _ _ found.3 found.1.room,
       start.requires.6.long,
       start.requires.6.most,
     )
@@ -79,9 +79,9 @@ pass-on-requires-2 c κs =
       ascends start,
       ends-within start,
       start.requires.4,
-      queue-most start.requires.0.readable start.requires.3 _ start.requires.4,
-      side-whole start.requires.0.readable start.requires.1 _ _ _ _ start.requires.4 start.requires.7,
-      two-same _ _ _ _ _ _ found.2 found.0.room,
+      queue_most start.requires.0.readable start.requires.3 _ start.requires.4,
+      side_whole start.requires.0.readable start.requires.1 _ _ _ _ start.requires.4 start.requires.7,
+      two_same _ _ _ _ _ _ found.2 found.0.room,
       start.requires.7.long,
       start.requires.7.most,
     )
@@ -91,8 +91,8 @@ returns-2 c =
     let start = c.before.before.before.before.before.before.before.before.before.before.before.before.before.before.before.before.before.before in
     let R = start.requires.0.readable in
     let found = c.before.before.before.before.before.before.before.before.before.before.supplies.ensures in (
-      side-green R start.requires.1 _ _ _ _ start.requires.4 start.requires.6 found.0 found.1 found.2 (queue-most R start.requires.2 _ start.requires.4) refl c.before.before.before.before.pass_on.ensures,
-      side-green R start.requires.1 _ _ _ _ start.requires.4 start.requires.7 found.1 found.0 found.3 (queue-most R start.requires.3 _ start.requires.4) refl c.pass-on2.ensures,
+      side_green R start.requires.1 _ _ _ _ start.requires.4 start.requires.6 found.0 found.1 found.2 (queue_most R start.requires.2 _ start.requires.4) refl c.before.before.before.before.pass_on.ensures,
+      side_green R start.requires.1 _ _ _ _ start.requires.4 start.requires.7 found.1 found.0 found.3 (queue_most R start.requires.3 _ start.requires.4) refl c.pass-on2.ensures,
       found.0.long,
       found.1.long,
     )

@@ -3,7 +3,7 @@ use native.Mathlib.Omega.{arith}
 use mathlib.Core.Path.{◌∙◌, ap}
 use Prim.Native.Nat.{ℕ}
 use borrow.Author.Rules.{rules}
-use Rattle.certificate.specs.Checks.{result}
+use Rattle.certificate.specs.Checks.{report_with}
 use Rattle.listing.proofs.Sending.{refuses, sends}
 use Rattle.listing.proofs.render.render_refused.Statement.{statement}
 use Rattle.listing.proofs.render.render_refused.Tie as tie
@@ -27,7 +27,7 @@ same_length : tie.Need-same-length
 same_length c = search rules
 
 returns-2 : tie.Need-returns-2
-returns-2 c = sends (omega arith) c.before.before.before.Put-refused.ensures (c.report.ensures ∙ ap (λ (n : ℕ). result 0 n 0 0) c.before.before.before.before.before.before.refused-length.ensures.0)
+returns-2 c = sends (omega arith) c.before.before.before.Put-refused.ensures (c.report.ensures ∙ ap (λ (n : ℕ). report_with 0 n 0 0) c.before.before.before.before.before.before.refused-length.ensures.0)
 
 pub render-refused-spec : {M : Type 1} → statement M
 render-refused-spec =

@@ -4,7 +4,7 @@ use Prim.Native.Nat.{ℕ}
 use native.Mathlib.Omega.{arith}
 use borrow.Author.Rules.{rules}
 use lib.ListN.{length}
-use Rattle.listing_text.specs.Lines.{entryLines}
+use Rattle.listing_text.specs.Lines.{entry_lines}
 use Rattle.listing_text.proofs.Listings.{length-accepted}
 use Rattle.listing.proofs.render.text_length.Statement.{statement}
 use Rattle.listing.proofs.render.text_length.Tie as tie
@@ -33,7 +33,7 @@ returns : tie.Need-returns
 returns c =
     let s = c.before.before.before.before.before in
     let n = c.before.before.entries-of.ensures.0 in
-    let lines = ap (λ (n : ℕ). length (entryLines s.args.s.now n)) n in
+    let lines = ap (λ (n : ℕ). length (entry_lines s.args.s.now n)) n in
     omega (arith, length-accepted s.args.s.now s.args.report s.args.overflows, lines, s.requires.most)
 
 pub text-length-spec : {M : Type 1} → statement M

@@ -1,7 +1,7 @@
 -- `listing_lines::lengths::accepted_length` meets its contract. Assumes nothing.
 use mathlib.Core.Path.{sym, ap, ◌∙◌}
 use lib.ListN.{length}
-use Rattle.listing_lines.proofs.LineParts.{accepted-is}
+use Rattle.listing_lines.proofs.LineParts.{accepted_is}
 use borrow.Author.Rules.{rules}
 use Rattle.listing_lines.proofs.lengths.accepted_length.Statement.{statement}
 use Rattle.listing_lines.proofs.lengths.accepted_length.Tie as tie
@@ -16,7 +16,7 @@ line-length-requires : tie.Need-line-length-requires
 line-length-requires c κs = search rules
 
 returns : tie.Need-returns
-returns c = let r = c.line-length.ensures in (r.0 ∙ ap length (sym (accepted-is _ _)), r.1)
+returns c = let r = c.line-length.ensures in (r.0 ∙ ap length (sym (accepted_is _ _)), r.1)
 
 pub accepted-length-spec : {M : Type 1} → statement M
 accepted-length-spec =

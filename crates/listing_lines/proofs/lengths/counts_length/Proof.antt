@@ -4,7 +4,7 @@ use Prim.Native.Nat.{ℕ}
 use native.Mathlib.Omega.{arith}
 use lib.ListN.{length}
 use Rattle.listing_text.specs.Text.{decimal}
-use Rattle.listing_text.proofs.LineLengths.{length-counts}
+use Rattle.listing_text.proofs.LineLengths.{length_counts}
 use borrow.Author.Rules.{rules}
 use Rattle.listing_lines.proofs.lengths.counts_length.Statement.{statement}
 use Rattle.listing_lines.proofs.lengths.counts_length.Tie as tie
@@ -90,7 +90,7 @@ returns c =
     let modes = as_long c.before.before.before.before.before.before.before.modes-of.ensures.0 in
     let boxes = as_long c.before.before.before.before.boxes-of.ensures.0 in
     let entries = as_long c.before.entries-of.ensures.0 in
-    omega (arith, length-counts c.before.before.before.before.before.before.before.before.before.before.before.before.before.before.before.before.before.before.before.args.s.now, links, turns, signals, modes, boxes, entries)
+    omega (arith, length_counts c.before.before.before.before.before.before.before.before.before.before.before.before.before.before.before.before.before.before.before.args.s.now, links, turns, signals, modes, boxes, entries)
 
 pub counts-length-spec : {M : Type 1} → statement M
 counts-length-spec =

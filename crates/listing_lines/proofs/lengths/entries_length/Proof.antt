@@ -3,19 +3,19 @@ use mathlib.Core.Path.{◌≡◌, ◌∙◌}
 use Prim.Native.Nat.{◌*◌, ◌-◌, ◌≤◌}
 use native.Mathlib.Omega.{arith}
 use lib.ListN.{length}
-use Rattle.listing_text.specs.Lines.{entryLines}
+use Rattle.listing_text.specs.Lines.{entry_lines}
 use Rattle.listing_text.proofs.LineLengths.{length_more}
 use Rattle.listing_lines.proofs.lengths.entries_length.Statement.{statement}
 use Rattle.listing_lines.proofs.lengths.entries_length.Tie as tie
 
 abbrev invariant-loop : tie.invariant-loop
-invariant-loop s start n total₀ e₀ total e = (e ≤ n) × (total ≡ length (entryLines s e)) × (total ≤ 55 * e)
+invariant-loop s start n total₀ e₀ total e = (e ≤ n) × (total ≡ length (entry_lines s e)) × (total ≤ 55 * e)
 
 abbrev decreases-loop : tie.decreases-loop
 decreases-loop s start n total₀ e₀ total e = n - e
 
 loop-holds : tie.Need-loop-init invariant-loop decreases-loop
-unfolding entryLines
+unfolding entry_lines
 loop-holds c = omega arith
 
 entry-length-requires : tie.Need-entry-length-requires invariant-loop decreases-loop

@@ -2,7 +2,7 @@
 use native.Mathlib.Omega.{arith}
 use mathlib.Core.Path.{◌∙◌, ap}
 use lib.ListN.{length}
-use Rattle.listing_lines.proofs.LineParts.{entry-is}
+use Rattle.listing_lines.proofs.LineParts.{entry_is}
 use borrow.Author.Rules.{rules}
 use Rattle.listing_lines.proofs.lengths.entry_length.Statement.{statement}
 use Rattle.listing_lines.proofs.lengths.entry_length.Tie as tie
@@ -19,7 +19,7 @@ numbers-length-requires c κs = search rules
 returns : tie.Need-returns
 returns c =
     let five = c.before.before.entry-numbers.ensures in
-    (c.numbers-length.ensures.0 ∙ rw (five, ← entry-is), omega (arith, c.numbers-length.ensures.1, ap length five))
+    (c.numbers-length.ensures.0 ∙ rw (five, ← entry_is), omega (arith, c.numbers-length.ensures.1, ap length five))
 
 pub entry-length-spec : {M : Type 1} → statement M
 entry-length-spec =

@@ -3,24 +3,24 @@ use mathlib.Core.Path.{◌≡◌, refl}
 use Prim.Native.Nat.{◌+◌, ◌-◌, ◌≤◌}
 use native.Mathlib.Omega.{arith}
 use lib.ListN.{length}
-use Rattle.listing_text.specs.Lines.{entryLines}
+use Rattle.listing_text.specs.Lines.{entry_lines}
 use Rattle.text.specs.TextPut.{Put}
-use Rattle.text.proofs.Placing.{put-none, then}
+use Rattle.text.proofs.Placing.{put_none, then}
 use Rattle.listing_text.proofs.LineLengths.{lines_more, length_more}
-use Rattle.listing_lines.proofs.LineParts.{lines-grow}
+use Rattle.listing_lines.proofs.LineParts.{lines_grow}
 use Rattle.listing_lines.proofs.lines.put_entries.Statement.{statement}
 use Rattle.listing_lines.proofs.lines.put_entries.Tie as tie
 
 abbrev invariant-loop : tie.invariant-loop
 invariant-loop buffer₀ at s start n next₀ e₀ buffer next e =
-    (e ≤ n) × (length buffer ≡ length buffer₀) × Put buffer₀ at (entryLines s e) buffer next
+    (e ≤ n) × (length buffer ≡ length buffer₀) × Put buffer₀ at (entry_lines s e) buffer next
 
 abbrev decreases-loop : tie.decreases-loop
 decreases-loop buffer₀ at s start n next₀ e₀ buffer next e = n - e
 
 loop-holds : tie.Need-loop-init invariant-loop decreases-loop
-unfolding entryLines
-loop-holds c = (omega arith, refl, put-none _ _)
+unfolding entry_lines
+loop-holds c = (omega arith, refl, put_none _ _)
 
 put-entry-requires : tie.Need-put-entry-requires invariant-loop decreases-loop
 put-entry-requires c κs =
@@ -29,7 +29,7 @@ put-entry-requires c κs =
     let n = c.before.before.before.before.before.args.n in
     let h = c.before.before.before.before.before.requires in
     let more = length_more s l.e in
-    let grow = lines-grow s (l.e + 1) n (omega arith) in
+    let grow = lines_grow s (l.e + 1) n (omega arith) in
     (omega arith, h.1, h.2, record { fits = omega (arith, h.3.fits, l.invariant.2.place) })
 
 add-e : tie.Need-overflow-add-e invariant-loop decreases-loop

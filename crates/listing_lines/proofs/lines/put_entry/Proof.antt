@@ -1,5 +1,5 @@
 -- `listing_lines::lines::put_entry` meets its contract. Assumes nothing.
-use Rattle.listing_lines.proofs.LineParts.{entry-is}
+use Rattle.listing_lines.proofs.LineParts.{entry_is}
 use borrow.Author.Rules.{rules}
 use Rattle.listing_lines.proofs.lines.put_entry.Statement.{statement}
 use Rattle.listing_lines.proofs.lines.put_entry.Tie as tie
@@ -11,13 +11,13 @@ slice-aggregate-put-numbers : tie.Need-slice-aggregate-put-numbers
 slice-aggregate-put-numbers c = search rules
 
 put-numbers-requires : tie.Need-put-numbers-requires
-put-numbers-requires c κs = rw (c.before.before.entry-numbers.ensures, ← entry-is) c.before.before.before.before.before.requires.3
+put-numbers-requires c κs = rw (c.before.before.entry-numbers.ensures, ← entry_is) c.before.before.before.before.before.requires.3
 
 same_length : tie.Need-same-length
 same_length c = search rules
 
 returns : tie.Need-returns
-returns c = rw (entry-is, ← c.before.before.before.before.before.entry-numbers.ensures) c.before.before.put-numbers.ensures
+returns c = rw (entry_is, ← c.before.before.before.before.before.entry-numbers.ensures) c.before.before.put-numbers.ensures
 
 pub put-entry-spec : {M : Type 1} → statement M
 put-entry-spec =

@@ -13,7 +13,7 @@ same-goals-requires : tie.Need-same-goals-requires
 same-goals-requires c κs = search rules
 
 returns : tie.Need-returns
-returns c = rw (c.before.before.goal-number.ensures.0, c.before.goal-number2.ensures.0, c.same_goals.ensures)
+returns c = rw (c.before.before.goal_number.ensures.0, c.before.goal-number2.ensures.0, c.same_goals.ensures)
 
 pub agrees-with-spec : {M : Type 1} → statement M
 agrees-with-spec =

@@ -1,7 +1,7 @@
 -- `mode_checks::goals::goals_ok` meets its contract. Assumes nothing.
 use borrow.Author.Rules.{rules}
 use Rattle.certificate.specs.Octets.{◌also◌}
-use Rattle.certificate.specs.Records.{goalsOk}
+use Rattle.certificate.specs.Records.{goals_ok}
 use Rattle.mode_checks.proofs.goals.goals_ok.Statement.{statement}
 use Rattle.mode_checks.proofs.goals.goals_ok.Tie as tie
 
@@ -24,11 +24,11 @@ no-gap-requires : tie.Need-no-gap-requires
 no-gap-requires c κs = search rules
 
 returns : tie.Need-returns
-unfolding goalsOk ◌also◌
+unfolding goals_ok ◌also◌
 returns c =
     let modes = c.before in
     let agree = modes.before in
-    rw (c.no_gap.ensures, modes.modes-of.ensures.0, agree.goals-agree.ensures, agree.before.goals-safe.ensures, agree.before.before.goal-number.ensures.0)
+    rw (c.no_gap.ensures, modes.modes-of.ensures.0, agree.goals_agree_fact.ensures, agree.before.goals-safe.ensures, agree.before.before.goal_number.ensures.0)
 
 pub goals-ok-spec : {M : Type 1} → statement M
 goals-ok-spec =

@@ -3,12 +3,12 @@ use Prim.Native.Nat.{◌-◌, ◌≤◌}
 use mathlib.Core.Path.{◌≡◌}
 use native.Mathlib.Omega.{arith}
 use borrow.Author.Rules.{rules}
-use Rattle.mode_checks.proofs.ModeTests.{usedTo, used-none, used-more, used_all}
+use Rattle.mode_checks.proofs.ModeTests.{used_to, used_none, used_more, used_all}
 use Rattle.mode_checks.proofs.goals.is_used.Statement.{statement}
 use Rattle.mode_checks.proofs.goals.is_used.Tie as tie
 
 abbrev invariant-loop : tie.invariant-loop
-invariant-loop s place n modes used₀ m₀ used m = (used ≡ usedTo s n m) × (m ≤ modes)
+invariant-loop s place n modes used₀ m₀ used m = (used ≡ used_to s n m) × (m ≤ modes)
 
 abbrev decreases-loop : tie.decreases-loop
 decreases-loop s place n modes used₀ m₀ used m = modes - m
@@ -17,7 +17,7 @@ modes-of-requires : tie.Need-modes-of-requires invariant-loop decreases-loop
 modes-of-requires c κs = search rules
 
 loop-holds : tie.Need-loop-init invariant-loop decreases-loop
-loop-holds c = (used-none _ _, omega arith)
+loop-holds c = (used_none _ _, omega arith)
 
 goal-number-requires : tie.Need-goal-number-requires invariant-loop decreases-loop
 goal-number-requires c κs = search rules
@@ -31,7 +31,7 @@ loop-less c = search rules
 loop-again : tie.Need-loop-preserved invariant-loop decreases-loop
 loop-again c =
     let w = c.before.before in
-    (used-more _ _ _ w.loop.invariant.0 c.goal-number.ensures.0, omega (arith, c.before.loop-test.true))
+    (used_more _ _ _ w.loop.invariant.0 c.goal_number.ensures.0, omega (arith, c.before.loop-test.true))
 
 returns : tie.Need-returns invariant-loop decreases-loop
 returns c =

@@ -2,13 +2,13 @@
 use Prim.Native.Nat.{◌-◌}
 use mathlib.Core.Path.{◌≡◌, refl}
 use borrow.Author.Rules.{rules}
-use Rattle.certificate.specs.Records.{noGap}
-use Rattle.mode_checks.proofs.ModeTests.{usedFrom, used-on, used-stop, used-end}
+use Rattle.certificate.specs.Records.{no_gap}
+use Rattle.mode_checks.proofs.ModeTests.{used_from, used_on, used_stop, used_end}
 use Rattle.mode_checks.proofs.goals.no_gap.Statement.{statement}
 use Rattle.mode_checks.proofs.goals.no_gap.Tie as tie
 
 abbrev invariant-loop : tie.invariant-loop
-invariant-loop s place greatest n₀ n = usedFrom s n ≡ noGap s
+invariant-loop s place greatest n₀ n = used_from s n ≡ no_gap s
 
 abbrev decreases-loop : tie.decreases-loop
 decreases-loop s place greatest n₀ n = greatest - n
@@ -17,7 +17,7 @@ greatest-of-requires : tie.Need-greatest-of-requires invariant-loop decreases-lo
 greatest-of-requires c κs = search rules
 
 loop-holds : tie.Need-loop-init invariant-loop decreases-loop
-unfolding usedFrom noGap
+unfolding used_from no_gap
 loop-holds c = refl
 
 is-used-requires : tie.Need-is-used-requires invariant-loop decreases-loop
@@ -26,7 +26,7 @@ is-used-requires c κs = search rules
 returns : tie.Need-returns invariant-loop decreases-loop
 returns c =
     let w = c.before.before.before in
-    used-stop _ _ w.before.greatest-of.ensures.0 c.before.is-used.ensures c.before.before.loop-test.true c.if1.true w.loop.invariant
+    used_stop _ _ w.before.greatest-of.ensures.0 c.before.is-used.ensures c.before.before.loop-test.true c.if1.true w.loop.invariant
 
 add-n : tie.Need-overflow-add-n invariant-loop decreases-loop
 add-n c = search rules
@@ -37,10 +37,10 @@ loop-less c = search rules
 loop-again : tie.Need-loop-preserved invariant-loop decreases-loop
 loop-again c =
     let w = c.before.before.before in
-    used-on _ _ w.before.greatest-of.ensures.0 c.before.is-used.ensures c.before.before.loop-test.true c.if1.false w.loop.invariant
+    used_on _ _ w.before.greatest-of.ensures.0 c.before.is-used.ensures c.before.before.loop-test.true c.if1.false w.loop.invariant
 
 returns-2 : tie.Need-returns-2 invariant-loop decreases-loop
-returns-2 c = used-end _ _ c.before.before.greatest-of.ensures.0 c.loop-test.false c.before.loop.invariant
+returns-2 c = used_end _ _ c.before.before.greatest-of.ensures.0 c.loop-test.false c.before.loop.invariant
 
 pub no-gap-spec : {M : Type 1} → statement M
 no-gap-spec =

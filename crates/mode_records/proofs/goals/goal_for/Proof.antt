@@ -1,6 +1,6 @@
 -- `mode_records::goals::goal_for` meets its contract. Assumes nothing.
 use borrow.Author.Rules.{rules}
-use Rattle.mode_records.proofs.ModeFields.{goal-here}
+use Rattle.mode_records.proofs.ModeFields.{goal_here}
 use Rattle.mode_records.proofs.goals.goal_for.Statement.{statement}
 use Rattle.mode_records.proofs.goals.goal_for.Tie as tie
 
@@ -20,7 +20,7 @@ u16-at-requires : tie.Need-u16-at-requires
 u16-at-requires c κs = search rules
 
 returns : tie.Need-returns
-returns c = (search goal-here, search rules)
+returns c = (search goal_here, search rules)
 
 pub goal-for-spec : {M : Type 1} → statement M
 goal-for-spec =

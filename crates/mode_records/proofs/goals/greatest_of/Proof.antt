@@ -3,14 +3,14 @@ use Prim.Native.Nat.{◌-◌, ◌<◌, ◌≤◌}
 use mathlib.Core.Path.{◌≡◌}
 use native.Mathlib.Omega.{arith}
 use borrow.Author.Rules.{rules}
-use Rattle.certificate.specs.Loops.{greatestTo}
-use Rattle.certificate.specs.Layout.{goalNumberOf}
-use Rattle.mode_records.proofs.ModeFields.{greatest-none, greatest-more, greatest-all}
+use Rattle.certificate.specs.Loops.{greatest_to}
+use Rattle.certificate.specs.Layout.{goal_number_of}
+use Rattle.mode_records.proofs.ModeFields.{greatest_none, greatest_more, greatest_all}
 use Rattle.mode_records.proofs.goals.greatest_of.Statement.{statement}
 use Rattle.mode_records.proofs.goals.greatest_of.Tie as tie
 
 abbrev invariant-loop : tie.invariant-loop
-invariant-loop s place modes greatest₀ m₀ greatest m = (greatest ≡ greatestTo m (goalNumberOf s)) × (greatest < 256) × (m ≤ modes)
+invariant-loop s place modes greatest₀ m₀ greatest m = (greatest ≡ greatest_to m (goal_number_of s)) × (greatest < 256) × (m ≤ modes)
 
 abbrev decreases-loop : tie.decreases-loop
 decreases-loop s place modes greatest₀ m₀ greatest m = modes - m
@@ -19,7 +19,7 @@ modes-of-requires : tie.Need-modes-of-requires invariant-loop decreases-loop
 modes-of-requires c κs = search rules
 
 loop-holds : tie.Need-loop-init invariant-loop decreases-loop
-loop-holds c = (greatest-none _, omega arith, omega arith)
+loop-holds c = (greatest_none _, omega arith, omega arith)
 
 goal-number-requires : tie.Need-goal-number-requires invariant-loop decreases-loop
 goal-number-requires c κs = search rules
@@ -36,13 +36,13 @@ loop-less c = search rules
 loop-again : tie.Need-loop-preserved invariant-loop decreases-loop
 loop-again c =
     let w = c.before.before.before in
-    let number = c.before.goal-number.ensures in
-    (greatest-more _ _ w.loop.invariant.0 number.0 c.larger.ensures, omega (arith, w.loop.invariant.1, number.1, c.larger.ensures), omega (arith, c.before.before.loop-test.true))
+    let number = c.before.goal_number.ensures in
+    (greatest_more _ _ w.loop.invariant.0 number.0 c.larger.ensures, omega (arith, w.loop.invariant.1, number.1, c.larger.ensures), omega (arith, c.before.before.loop-test.true))
 
 returns : tie.Need-returns invariant-loop decreases-loop
 returns c =
     let w = c.before in
-    (greatest-all _ _ w.loop.invariant.0 (omega (arith, w.loop.invariant.2, c.loop-test.false, w.before.modes-of.ensures.0)), w.loop.invariant.1)
+    (greatest_all _ _ w.loop.invariant.0 (omega (arith, w.loop.invariant.2, c.loop-test.false, w.before.modes-of.ensures.0)), w.loop.invariant.1)
 
 pub greatest-of-spec : {M : Type 1} → statement M
 greatest-of-spec =

@@ -1,6 +1,6 @@
 -- `mode_records::modes::shown_before` meets its contract. Assumes nothing.
 use borrow.Author.Rules.{rules}
-use Rattle.mode_records.proofs.ModeFields.{shown-here}
+use Rattle.mode_records.proofs.ModeFields.{shown_here}
 use Rattle.mode_records.proofs.modes.shown_before.Statement.{statement}
 use Rattle.mode_records.proofs.modes.shown_before.Tie as tie
 
@@ -14,7 +14,7 @@ byte-at-requires : tie.Need-byte-at-requires
 byte-at-requires c κs = search rules
 
 returns : tie.Need-returns
-returns c = (search shown-here, search rules)
+returns c = (search shown_here, search rules)
 
 pub shown-before-spec : {M : Type 1} → statement M
 shown-before-spec = tie.close (tie.spec mode-at-requires add-byte-at byte-at-requires returns)

@@ -4,13 +4,13 @@ use mathlib.Core.Path.{◌≡◌}
 use native.Mathlib.Omega.{arith}
 use lib.ListN.{get_or, length}
 use borrow.Author.Rules.{rules}
-use Rattle.rank_tables.specs.Index.{entryFrom}
-use Rattle.rank_tables.proofs.Finding.{from-grows, store-more}
+use Rattle.rank_tables.specs.Index.{entry_from}
+use Rattle.rank_tables.proofs.Finding.{from_grows, store_more}
 use Rattle.rank_tables.proofs.index.index_of.Statement.{statement}
 use Rattle.rank_tables.proofs.index.index_of.Tie as tie
 
 abbrev invariant-loop : tie.invariant-loop
-invariant-loop s start entries cells index₀ e₀ d₀ d-end index e d = (d ≤ d-end) × (d-end ≡ cells + 1) × (length index ≡ 4097) × (e ≤ entryFrom s d) × ((k : ℕ) → k < d → get_or index k 0 ≡ entryFrom s k)
+invariant-loop s start entries cells index₀ e₀ d₀ d-end index e d = (d ≤ d-end) × (d-end ≡ cells + 1) × (length index ≡ 4097) × (e ≤ entry_from s d) × ((k : ℕ) → k < d → get_or index k 0 ≡ entry_from s k)
 
 abbrev decreases-loop : tie.decreases-loop
 decreases-loop s start entries cells index₀ e₀ d₀ d-end index e d = d-end - d
@@ -43,7 +43,7 @@ loop-again : tie.Need-loop-preserved invariant-loop decreases-loop
 loop-again c =
     let l = c.before.before.loop in
     let here = c.first-from.ensures.0 in
-    (omega arith, omega arith, search rules, rw here (from-grows _ _), store-more l.index l.d c.first-from.result _ (omega arith) l.invariant.4 here)
+    (omega arith, omega arith, search rules, rw here (from_grows _ _), store_more l.index l.d c.first-from.result _ (omega arith) l.invariant.4 here)
 
 returns : tie.Need-returns invariant-loop decreases-loop
 returns c = λ k le. c.before.loop.invariant.4 k (omega arith)

@@ -2,20 +2,20 @@
 use Prim.Native.Nat.{◌-◌, ◌≤◌}
 use native.Mathlib.Omega.{arith}
 use borrow.Author.Rules.{rules}
-use Rattle.rank_tables.specs.Index.{entryFrom}
-use Rattle.rank_tables.proofs.Finding.{from-most}
-use Rattle.rank_tables.proofs.Bisecting.{not-later, later}
+use Rattle.rank_tables.specs.Index.{entry_from}
+use Rattle.rank_tables.proofs.Finding.{from_most}
+use Rattle.rank_tables.proofs.Bisecting.{not_later, later}
 use Rattle.rank_tables.proofs.lookup.first_at.Statement.{statement}
 use Rattle.rank_tables.proofs.lookup.first_at.Tie as tie
 
 abbrev invariant-loop : tie.invariant-loop
-invariant-loop s start entries d low₀ high₀ low high = (low ≤ entryFrom s d) × (entryFrom s d ≤ high) × (high ≤ entries)
+invariant-loop s start entries d low₀ high₀ low high = (low ≤ entry_from s d) × (entry_from s d ≤ high) × (high ≤ entries)
 
 abbrev decreases-loop : tie.decreases-loop
 decreases-loop s start entries d low₀ high₀ low high = high - low
 
 loop-holds : tie.Need-loop-init invariant-loop decreases-loop
-loop-holds c = (search rules, omega (arith, from-most c.before.args.s.now c.before.args.d), search rules)
+loop-holds c = (search rules, omega (arith, from_most c.before.args.s.now c.before.args.d), search rules)
 
 add-middle : tie.Need-overflow-add-middle invariant-loop decreases-loop
 add-middle c = search rules
@@ -27,7 +27,7 @@ loop-less : tie.Need-loop-smaller invariant-loop decreases-loop
 loop-less c = search rules
 
 loop-again : tie.Need-loop-preserved invariant-loop decreases-loop
-loop-again c = (search rules, not-later _ _ _ (omega arith), search rules)
+loop-again c = (search rules, not_later _ _ _ (omega arith), search rules)
 
 add_low : tie.Need-overflow-add-low invariant-loop decreases-loop
 add_low c = search rules

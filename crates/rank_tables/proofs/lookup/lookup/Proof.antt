@@ -2,8 +2,8 @@
 use Prim.Native.Nat.{◌+◌, ◌≤◌}
 use mathlib.Core.Path.{◌≡◌, ◌∙◌}
 use native.Mathlib.Omega.{arith}
-use Rattle.rank_tables.specs.Index.{entryFrom, CellFrom}
-use Rattle.rank_tables.proofs.Finding.{from-most}
+use Rattle.rank_tables.specs.Index.{entry_from, CellFrom}
+use Rattle.rank_tables.proofs.Finding.{from_most}
 use borrow.Author.Rules.{rules}
 use Rattle.rank_tables.proofs.lookup.lookup.Statement.{statement}
 use Rattle.rank_tables.proofs.lookup.lookup.Tie as tie
@@ -41,7 +41,7 @@ among-requires : tie.Need-among-requires
 among-requires c κs =
     let b = bounds c in
     let a = c.before.before.before.before.before.args in
-    let end-most : c.before.before.wide-pair.result ≤ a.entries = omega (arith, b.1, from-most a.s.now (a.d + 1)) in
+    let end_most : c.before.before.wide-pair.result ≤ a.entries = omega (arith, b.1, from_most a.s.now (a.d + 1)) in
     search rules
 
 returns : tie.Need-returns

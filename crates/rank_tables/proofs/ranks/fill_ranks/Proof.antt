@@ -5,12 +5,12 @@ use native.Mathlib.Omega.{arith}
 use borrow.Author.Count.{below_none}
 use borrow.Author.Rules.{rules}
 use Rattle.octets.proofs.FilledTables.{Filled, filled_more}
-use Rattle.rank_tables.proofs.Ranking.{rankEntry, slot_is, ranks-filled, table_fits}
+use Rattle.rank_tables.proofs.Ranking.{rank_entry, slot_is, ranks_filled, table_fits}
 use Rattle.rank_tables.proofs.ranks.fill_ranks.Statement.{statement}
 use Rattle.rank_tables.proofs.ranks.fill_ranks.Tie as tie
 
 abbrev invariant-loop : tie.invariant-loop
-invariant-loop s start entries modes cells index ranks₀ k₀ k-end ranks k = (k-end ≤ 32768) × Filled 32768 k (rankEntry s) ranks
+invariant-loop s start entries modes cells index ranks₀ k₀ k-end ranks k = (k-end ≤ 32768) × Filled 32768 k (rank_entry s) ranks
 
 abbrev decreases-loop : tie.decreases-loop
 decreases-loop s start entries modes cells index ranks₀ k₀ k-end ranks k = k-end - k
@@ -51,7 +51,7 @@ loop-again : tie.Need-loop-preserved invariant-loop decreases-loop
 loop-again c =
     let l = c.before.before in
     let w = l.before.before.before.requires.10 in
-    (l.loop.invariant.0, filled_more 32768 _ (rankEntry _) l.loop.ranks _ l.loop.invariant.1 (omega (arith, l.loop.invariant.0)) (slot_is _ _ _ _ w c.rank-at.ensures))
+    (l.loop.invariant.0, filled_more 32768 _ (rank_entry _) l.loop.ranks _ l.loop.invariant.1 (omega (arith, l.loop.invariant.0)) (slot_is _ _ _ _ w c.rank-at.ensures))
 
 same_length : tie.Need-same-length invariant-loop decreases-loop
 same_length c = omega (arith, c.before.loop.invariant.1.0, c.before.before.before.before.requires.11)
@@ -59,7 +59,7 @@ same_length c = omega (arith, c.before.loop.invariant.1.0, c.before.before.befor
 returns : tie.Need-returns invariant-loop decreases-loop
 returns c =
     let a = c.before.before.before.before in
-    ranks-filled a.args.s.now c.before.loop.ranks a.args.modes a.args.cells a.requires.7 a.requires.10 a.requires.8 (λ k lt. c.before.loop.invariant.1.1 k (omega arith))
+    ranks_filled a.args.s.now c.before.loop.ranks a.args.modes a.args.cells a.requires.7 a.requires.10 a.requires.8 (λ k lt. c.before.loop.invariant.1.1 k (omega arith))
 
 pub fill-ranks-spec : {M : Type 1} → statement M
 fill-ranks-spec =

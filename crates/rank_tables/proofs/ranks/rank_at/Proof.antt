@@ -1,5 +1,5 @@
 -- `rank_tables::ranks::rank_at` meets its contract. Assumes nothing.
-use Rattle.rank_tables.proofs.Ranking.{rank-absent, rank-listed}
+use Rattle.rank_tables.proofs.Ranking.{rank_absent, rank_listed}
 use borrow.Author.Rules.{rules}
 use Rattle.rank_tables.proofs.ranks.rank_at.Statement.{statement}
 use Rattle.rank_tables.proofs.ranks.rank_at.Tie as tie
@@ -9,7 +9,7 @@ lookup-requires c κs = search rules
 
 returns : tie.Need-returns
 returns c = let found = c.before in
-    rank-absent _ _ _ _ _ found.lookup.ensures.0 found.before.before.requires.3 c.if1.true
+    rank_absent _ _ _ _ _ found.lookup.ensures.0 found.before.before.requires.3 c.if1.true
 
 rank-of-requires : tie.Need-rank-of-requires
 rank-of-requires c κs = search rules
@@ -23,7 +23,7 @@ add-result c = search rules
 returns-2 : tie.Need-returns-2
 returns-2 c = let listed = c.before in
     let found = listed.before in
-    rank-listed _ _ _ _ _ found.lookup.ensures.0 found.before.before.requires.3 _ found.lookup.ensures.1 listed.if1.false c.rank-of.ensures.0
+    rank_listed _ _ _ _ _ found.lookup.ensures.0 found.before.before.requires.3 _ found.lookup.ensures.1 listed.if1.false c.rank-of.ensures.0
 
 pub rank-at-spec : {M : Type 1} → statement M
 rank-at-spec =

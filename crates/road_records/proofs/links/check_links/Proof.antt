@@ -2,14 +2,14 @@
 use Prim.Native.Nat.{◌-◌}
 use mathlib.Core.Path.{◌≡◌}
 use borrow.Author.Rules.{rules}
-use Rattle.certificate.specs.Checks.{firstFrom}
-use Rattle.certificate.specs.Records.{linkFault}
+use Rattle.certificate.specs.Checks.{first_from}
+use Rattle.certificate.specs.Records.{link_fault}
 use Rattle.octets.proofs.Cases.{go_on, stop, end}
 use Rattle.road_records.proofs.links.check_links.Statement.{statement}
 use Rattle.road_records.proofs.links.check_links.Tie as tie
 
 abbrev invariant-loop : tie.invariant-loop
-invariant-loop s links l₀ l = firstFrom links (linkFault s) l ≡ firstFrom links (linkFault s) 0
+invariant-loop s links l₀ l = first_from links (link_fault s) l ≡ first_from links (link_fault s) 0
 
 abbrev decreases-loop : tie.decreases-loop
 decreases-loop s links l₀ l = links - l

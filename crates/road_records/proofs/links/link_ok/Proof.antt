@@ -1,6 +1,6 @@
 -- `road_records::links::link_ok` meets its contract. Assumes nothing.
 use Rattle.certificate.specs.Octets.{◌also◌}
-use Rattle.certificate.specs.Records.{linkOk}
+use Rattle.certificate.specs.Records.{link_ok}
 use borrow.Author.Rules.{rules}
 use Rattle.road_records.proofs.links.link_ok.Statement.{statement}
 use Rattle.road_records.proofs.links.link_ok.Tie as tie
@@ -27,7 +27,7 @@ link-u16-within-requires-2 : tie.Need-link-u16-within-requires-2
 link-u16-within-requires-2 c κs = search rules
 
 returns : tie.Need-returns
-unfolding linkOk ◌also◌
+unfolding link_ok ◌also◌
 returns c = rw (c.link-u16-within2.ensures.0, c.before.link-byte-within2.ensures.0, c.before.before.start-flow-within.ensures.0, c.before.before.before.link-u16-within.ensures.0, c.before.before.before.before.flow-within.ensures.0, c.before.before.before.before.before.cap-within.ensures.0, c.before.before.before.before.before.before.link-byte-within.ensures.0)
 
 pub link-ok-spec : {M : Type 1} → statement M

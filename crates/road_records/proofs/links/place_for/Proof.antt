@@ -2,11 +2,11 @@
 use Prim.Native.Nat.{◌*◌, ◌≤◌}
 use native.Mathlib.Nat.{mul-le-mul}
 use native.Mathlib.Omega.{arith}
-use Rattle.certificate.specs.Layout.{maxLinkSize}
+use Rattle.certificate.specs.Layout.{max_link_size}
 use Rattle.road_records.proofs.links.place_for.Statement.{statement}
 use Rattle.road_records.proofs.links.place_for.Tie as tie
 
-fits : (c : tie.Start) → c.args.size * c.args.l ≤ maxLinkSize * 256
+fits : (c : tie.Start) → c.args.size * c.args.l ≤ max_link_size * 256
 fits c = let h : c.args.l ≤ 256 = omega arith in mul-le-mul c.requires.2 h
 
 mul-result : tie.Need-overflow-mul-result

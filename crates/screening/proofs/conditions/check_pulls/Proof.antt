@@ -2,20 +2,20 @@
 use Prim.Native.Nat.{◌-◌}
 use mathlib.Core.Path.{◌≡◌}
 use borrow.Author.Rules.{rules}
-use Rattle.certificate.specs.Checks.{firstFrom}
+use Rattle.certificate.specs.Checks.{first_from}
 use Rattle.octets.proofs.Cases.{go_on, stop, end}
-use Rattle.network.specs.Conditions.{signalPullsFault, pullsFault}
+use Rattle.network.specs.Conditions.{signal_pulls_fault, pulls_fault}
 use Rattle.screening.proofs.conditions.check_pulls.Statement.{statement}
 use Rattle.screening.proofs.conditions.check_pulls.Tie as tie
 
 abbrev invariant-loop : tie.invariant-loop
-invariant-loop s start turns links greens signals g₀ g = firstFrom signals (signalPullsFault s) g ≡ pullsFault s
+invariant-loop s start turns links greens signals g₀ g = first_from signals (signal_pulls_fault s) g ≡ pulls_fault s
 
 abbrev decreases-loop : tie.decreases-loop
 decreases-loop s start turns links greens signals g₀ g = signals - g
 
 loop-holds : tie.Need-loop-init invariant-loop decreases-loop
-unfolding pullsFault
+unfolding pulls_fault
 loop-holds c = cc
 
 green-byte-of-requires : tie.Need-green-byte-of-requires invariant-loop decreases-loop

@@ -2,8 +2,8 @@
 use Prim.Native.Nat.{◌-◌, ◌≤◌}
 use native.Mathlib.Omega.{arith}
 use borrow.Author.Rules.{rules}
-use Rattle.octets.proofs.Fitting.{product-most}
-use Rattle.network.specs.Conditions.{roomOk}
+use Rattle.octets.proofs.Fitting.{product_most}
+use Rattle.network.specs.Conditions.{room_ok}
 use Rattle.screening.proofs.conditions.room_ok.Statement.{statement}
 use Rattle.screening.proofs.conditions.room_ok.Tie as tie
 
@@ -32,10 +32,10 @@ pull-of-requires : tie.Need-pull-of-requires
 pull-of-requires c κs = search rules
 
 mul-result-2 : tie.Need-overflow-mul-result-2
-mul-result-2 c = omega (arith, product-most 65535 65535 (let h : c.pull-of.result ≤ 65535 = omega arith in h) (let h : c.before.before.before.before.cap-of.result - c.before.before.before.flow-of.result ≤ 65535 = omega arith in h))
+mul-result-2 c = omega (arith, product_most 65535 65535 (let h : c.pull-of.result ≤ 65535 = omega arith in h) (let h : c.before.before.before.before.cap-of.result - c.before.before.before.flow-of.result ≤ 65535 = omega arith in h))
 
 returns : tie.Need-returns
-unfolding roomOk
+unfolding room_ok
 returns c = cc
 
 pub room-ok-spec : {M : Type 1} → statement M

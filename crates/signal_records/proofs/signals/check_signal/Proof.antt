@@ -1,5 +1,5 @@
 -- `signal_records::signals::check_signal` meets its contract. Assumes nothing.
-use Rattle.certificate.specs.Records.{signalOk, signalFault}
+use Rattle.certificate.specs.Records.{signal_ok, signal_fault}
 use borrow.Author.Rules.{rules}
 use Rattle.signal_records.proofs.signals.check_signal.Statement.{statement}
 use Rattle.signal_records.proofs.signals.check_signal.Tie as tie
@@ -23,7 +23,7 @@ record-result-requires : tie.Need-record-result-requires
 record-result-requires c κs = search rules
 
 returns : tie.Need-returns
-unfolding signalFault signalOk
+unfolding signal_fault signal_ok
 returns c =
     let pre = c.before.before.before.before.before.before.before.requires in
     rw (← c.before.before.green-byte-of.ensures.0, ← pre.4, ← c.before.power.ensures, ← pre.2, ← c.before.before.before.before.before.signal-at.ensures.0, ← c.before.before.before.before.marked-as.ensures, ← c.before.before.before.check-opened.ensures) c.record-result.ensures

@@ -2,14 +2,14 @@
 use Prim.Native.Nat.{◌-◌}
 use mathlib.Core.Path.{◌≡◌}
 use borrow.Author.Rules.{rules}
-use Rattle.certificate.specs.Checks.{firstFrom}
-use Rattle.certificate.specs.Records.{signalFault}
+use Rattle.certificate.specs.Checks.{first_from}
+use Rattle.certificate.specs.Records.{signal_fault}
 use Rattle.octets.proofs.Cases.{go_on, stop, end}
 use Rattle.signal_records.proofs.signals.check_signals.Statement.{statement}
 use Rattle.signal_records.proofs.signals.check_signals.Tie as tie
 
 abbrev invariant-loop : tie.invariant-loop
-invariant-loop s start links signals g₀ g = firstFrom signals (signalFault s) g ≡ firstFrom signals (signalFault s) 0
+invariant-loop s start links signals g₀ g = first_from signals (signal_fault s) g ≡ first_from signals (signal_fault s) 0
 
 abbrev decreases-loop : tie.decreases-loop
 decreases-loop s start links signals g₀ g = signals - g

@@ -5,7 +5,7 @@ use borrow.Author.Count.{below_none}
 use lib.ListN.{get_or}
 use Rattle.successors.specs.Ranges.{IsFirst, IsLast}
 use Rattle.octets.proofs.FilledTables.{Each, each_more}
-use Rattle.successors.proofs.Ranging.{range-meets}
+use Rattle.successors.proofs.Ranging.{range_meets}
 use Rattle.successors.proofs.ranges.ranges_of.Statement.{statement}
 use Rattle.successors.proofs.ranges.ranges_of.Tie as tie
 
@@ -71,7 +71,7 @@ loop-again c = let l = c.before.before.before.before.before in
 returns : tie.Need-returns invariant-loop decreases-loop
 returns c = let l = c.before in
     let a = c.before.before.before in (
-      range-meets a.args.s.now a.args.low.now a.args.high.now l.loop.first l.loop.last
+      range_meets a.args.s.now a.args.low.now a.args.high.now l.loop.first l.loop.last
           (λ k lt. l.loop.invariant.0.1 k (omega arith))
           (λ k lt. l.loop.invariant.1.1 k (omega arith)),
       l.loop.invariant.0.0,

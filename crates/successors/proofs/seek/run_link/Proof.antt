@@ -2,7 +2,7 @@
 use mathlib.Core.Path.{◌∙◌}
 use native.Mathlib.Omega.{arith}
 use Rattle.successors.specs.Ranges.{FullAfter}
-use Rattle.successors.proofs.Runs.{full-none, full-more}
+use Rattle.successors.proofs.Runs.{full_none, full_more}
 use Rattle.successors.proofs.seek.run_link.Statement.{statement}
 use Rattle.successors.proofs.seek.run_link.Tie as tie
 
@@ -13,10 +13,10 @@ abbrev decreases-loop : tie.decreases-loop
 decreases-loop s counts first last links k₀ k = k
 
 sub-k : tie.Need-overflow-sub-k invariant-loop decreases-loop
-sub-k c = omega (arith, c.requires.0.header.links-least)
+sub-k c = omega (arith, c.requires.0.header.links_least)
 
 loop-holds : tie.Need-loop-init invariant-loop decreases-loop
-loop-holds c = full-none _ _ _ _ (omega (arith, c.requires.0.header.links-least))
+loop-holds c = full_none _ _ _ _ (omega (arith, c.requires.0.header.links_least))
 
 mul-if1 : tie.Need-overflow-mul-if1 invariant-loop decreases-loop
 mul-if1 c = omega (arith, c.before.loop.invariant.exists)
@@ -38,7 +38,7 @@ add-if2 c =
     let l = c.before.before.before.before in
     let a = l.before in
     let exists = l.loop.invariant.exists in
-    omega (arith, a.requires.3.last-most l.loop.k exists, (a.requires.0.grid l.loop.k exists).count_most)
+    omega (arith, a.requires.3.last_most l.loop.k exists, (a.requires.0.grid l.loop.k exists).count_most)
 
 mul-if2-2 : tie.Need-overflow-mul-if2-2 invariant-loop decreases-loop
 mul-if2-2 c = omega arith
@@ -59,7 +59,7 @@ loop-again : tie.Need-loop-preserved invariant-loop decreases-loop
 loop-again c =
     let l = c.before.before.before.before.before.before in
     let a = l.before in
-    full-more _ _ _ _ l.loop.k (omega arith) l.loop.invariant c.before.before.before.if1.false
+    full_more _ _ _ _ l.loop.k (omega arith) l.loop.invariant c.before.before.before.if1.false
     (c.if2.false ∙ a.requires.1 l.loop.k l.loop.invariant.exists)
 
 returns-3 : tie.Need-returns-3 invariant-loop decreases-loop

@@ -5,10 +5,10 @@ use native.Mathlib.Numerals.{add-one}
 use native.Mathlib.Omega.{arith}
 use lib.ListN.{length, length-set}
 use lib.Seq.{get_or-set_same}
-use Rattle.certificate.specs.Layout.{linksOf}
-use Rattle.certificate.proofs.Size.{cells-in-range}
+use Rattle.certificate.specs.Layout.{links_of}
+use Rattle.certificate.proofs.Size.{cells_in_range}
 use Rattle.successors.specs.Ranges.{FullAfter}
-use Rattle.successors.proofs.Lists.{Listing, listing_none, listing-rows, listing-run, size_fits, list-most, run-most, product-fits, number_fits, built-all, built-empty}
+use Rattle.successors.proofs.Lists.{Listing, listing_none, listing_rows, listing_run, size_fits, list_most, run_most, product_fits, number_fits, built_all, built_empty}
 use Rattle.successors.proofs.starts.runs_of.Statement.{statement}
 use Rattle.successors.proofs.starts.runs_of.Tie as tie
 
@@ -55,8 +55,8 @@ returns c =
     let l = c.before.before.before.before.loop in
     let a = c.before.before.before.before.before.before.before.before in
     let s = a.args.s.now in
-    let lt : l.l < linksOf s = omega (arith, l.invariant.2.exists, c.before.before.before.loop-test.true, a.requires.2) in
-    (l.invariant.0, built-empty _ _ _ l.l l.starts lt c.if1.true)
+    let lt : l.l < links_of s = omega (arith, l.invariant.2.exists, c.before.before.before.loop-test.true, a.requires.2) in
+    (l.invariant.0, built_empty _ _ _ l.l l.starts lt c.if1.true)
 
 mul-widen : tie.Need-overflow-mul-widen invariant-loop decreases-loop invariant-loop2 decreases-loop2
 mul-widen c = omega arith
@@ -69,7 +69,7 @@ cast-widen c =
     let l = c.before.before.before.before.before.before.loop in
     let a = c.before.before.before.before.before.before.before.before.before.before in
     let s = a.args.s.now in
-    let lt : l.l < linksOf s = omega (arith, l.invariant.2.exists, c.before.before.before.before.before.loop-test.true, a.requires.2) in
+    let lt : l.l < links_of s = omega (arith, l.invariant.2.exists, c.before.before.before.before.before.loop-test.true, a.requires.2) in
     omega (arith, a.requires.1 l.l lt, (a.requires.0.grid l.l lt).count_most)
 
 widen-requires : tie.Need-widen-requires invariant-loop decreases-loop invariant-loop2 decreases-loop2
@@ -77,12 +77,12 @@ widen-requires c κs =
     let l = c.before.before.before.before.before.before.loop in
     let a = c.before.before.before.before.before.before.before.before.before.before in
     let s = a.args.s.now in
-    let lt : l.l < linksOf s = omega (arith, l.invariant.2.exists, c.before.before.before.before.before.loop-test.true, a.requires.2) in
+    let lt : l.l < links_of s = omega (arith, l.invariant.2.exists, c.before.before.before.before.before.loop-test.true, a.requires.2) in
     let filled = c.before.before.if1.false in (
       l.invariant.0,
       filled,
-      omega (arith, a.requires.3.last-most l.l lt, (a.requires.0.grid l.l lt).count_most),
-      list-most s _ _ a.requires.0 a.requires.3 _ l.invariant.2 l.l _ _ _ lt filled l.invariant.1,
+      omega (arith, a.requires.3.last_most l.l lt, (a.requires.0.grid l.l lt).count_most),
+      list_most s _ _ a.requires.0 a.requires.3 _ l.invariant.2 l.l _ _ _ lt filled l.invariant.1,
       λ m h. rw (a.requires.1 l.l lt) (number_fits s _ _ a.requires.0 a.requires.3 _ l.invariant.2 l.l _ _ _ lt filled l.invariant.1 m _ h (omega arith)),
     )
 
@@ -97,10 +97,10 @@ loop-again c =
     let l = c.before.before.before.before.before.before.before.before.before.loop in
     let a = c.before.before.before.before.before.before.before.before.before.before.before.before.before in
     let s = a.args.s.now in
-    let lt : l.l < linksOf s = omega (arith, l.invariant.2.exists, c.before.before.before.before.before.before.before.before.loop-test.true, a.requires.2) in
+    let lt : l.l < links_of s = omega (arith, l.invariant.2.exists, c.before.before.before.before.before.before.before.before.loop-test.true, a.requires.2) in
     let filled = c.before.before.before.before.before.if1.false in
     let w = c.before.before.widen.ensures in
-    (w.0, rw add-one (listing-rows s _ _ a.requires.0 a.requires.3 _ l.invariant.2 l.l _ _ _ lt filled l.invariant.1 _ _ _ c.before.before.before.before.before.before.before.before.loop-test.true refl w.1 (a.requires.1 l.l lt) w.2), l.invariant.2, omega arith)
+    (w.0, rw add-one (listing_rows s _ _ a.requires.0 a.requires.3 _ l.invariant.2 l.l _ _ _ lt filled l.invariant.1 _ _ _ c.before.before.before.before.before.before.before.before.loop-test.true refl w.1 (a.requires.1 l.l lt) w.2), l.invariant.2, omega arith)
 
 loop2-holds : tie.Need-loop2-init invariant-loop decreases-loop invariant-loop2 decreases-loop2
 loop2-holds c =
@@ -130,16 +130,16 @@ returns-2 c =
     let l = c.before.before.before.before.loop2 in
     let a = c.before.before.before.before.before.before.before.before.before.before in
     let s = a.args.s.now in
-    let lt : l.l < linksOf s = omega (arith, l.invariant.2.exists, c.before.before.before.loop2-test.true, a.requires.2) in
-    (l.invariant.0, built-empty _ _ _ l.l l.starts lt c.if2.true)
+    let lt : l.l < links_of s = omega (arith, l.invariant.2.exists, c.before.before.before.loop2-test.true, a.requires.2) in
+    (l.invariant.0, built_empty _ _ _ l.l l.starts lt c.if2.true)
 
 add-size : tie.Need-overflow-add-size invariant-loop decreases-loop invariant-loop2 decreases-loop2
 add-size c =
     let l = c.before.before.before.before.loop2 in
     let a = c.before.before.before.before.before.before.before.before.before.before in
     let s = a.args.s.now in
-    let lt : l.l < linksOf s = omega (arith, l.invariant.2.exists, c.before.before.before.loop2-test.true, a.requires.2) in
-    omega (arith, a.requires.3.last-most l.l lt, (a.requires.0.grid l.l lt).count_most)
+    let lt : l.l < links_of s = omega (arith, l.invariant.2.exists, c.before.before.before.loop2-test.true, a.requires.2) in
+    omega (arith, a.requires.3.last_most l.l lt, (a.requires.0.grid l.l lt).count_most)
 
 sub-size : tie.Need-overflow-sub-size invariant-loop decreases-loop invariant-loop2 decreases-loop2
 sub-size c = omega arith
@@ -149,8 +149,8 @@ mul-size c =
     let l = c.before.before.before.before.loop2 in
     let a = c.before.before.before.before.before.before.before.before.before.before in
     let s = a.args.s.now in
-    let lt : l.l < linksOf s = omega (arith, l.invariant.2.exists, c.before.before.before.loop2-test.true, a.requires.2) in
-    omega (arith, size_fits s _ _ a.requires.0 a.requires.3 _ l.invariant.2 l.l _ _ _ lt c.if2.false l.invariant.1, product-fits s _ _ a.requires.0 a.requires.3 _ l.invariant.2 l.l _ _ _ lt c.if2.false l.invariant.1)
+    let lt : l.l < links_of s = omega (arith, l.invariant.2.exists, c.before.before.before.loop2-test.true, a.requires.2) in
+    omega (arith, size_fits s _ _ a.requires.0 a.requires.3 _ l.invariant.2 l.l _ _ _ lt c.if2.false l.invariant.1, product_fits s _ _ a.requires.0 a.requires.3 _ l.invariant.2 l.l _ _ _ lt c.if2.false l.invariant.1)
 
 mul-first-row : tie.Need-overflow-mul-first-row invariant-loop decreases-loop invariant-loop2 decreases-loop2
 mul-first-row c = omega arith
@@ -163,7 +163,7 @@ cast-first-row c =
     let l = c.before.before.before.before.before.before.loop2 in
     let a = c.before.before.before.before.before.before.before.before.before.before.before.before in
     let s = a.args.s.now in
-    let lt : l.l < linksOf s = omega (arith, l.invariant.2.exists, c.before.before.before.before.before.loop2-test.true, a.requires.2) in
+    let lt : l.l < links_of s = omega (arith, l.invariant.2.exists, c.before.before.before.before.before.loop2-test.true, a.requires.2) in
     omega (arith, a.requires.1 l.l lt, (a.requires.0.grid l.l lt).count_most)
 
 cast-first-row-2 : tie.Need-overflow-cast-first-row-2 invariant-loop decreases-loop invariant-loop2 decreases-loop2
@@ -171,18 +171,18 @@ cast-first-row-2 c =
     let l = c.before.before.before.before.before.before.loop2 in
     let a = c.before.before.before.before.before.before.before.before.before.before.before.before in
     let s = a.args.s.now in
-    let lt : l.l < linksOf s = omega (arith, l.invariant.2.exists, c.before.before.before.before.before.loop2-test.true, a.requires.2) in
-    omega (arith, a.requires.3.first-most l.l lt, (a.requires.0.grid l.l lt).count_most)
+    let lt : l.l < links_of s = omega (arith, l.invariant.2.exists, c.before.before.before.before.before.loop2-test.true, a.requires.2) in
+    omega (arith, a.requires.3.first_most l.l lt, (a.requires.0.grid l.l lt).count_most)
 
 first-row-requires : tie.Need-first-row-requires invariant-loop decreases-loop invariant-loop2 decreases-loop2
 first-row-requires c κs =
     let l = c.before.before.before.before.before.before.loop2 in
     let a = c.before.before.before.before.before.before.before.before.before.before.before.before in
     let s = a.args.s.now in
-    let lt : l.l < linksOf s = omega (arith, l.invariant.2.exists, c.before.before.before.before.before.loop2-test.true, a.requires.2) in
+    let lt : l.l < links_of s = omega (arith, l.invariant.2.exists, c.before.before.before.before.before.loop2-test.true, a.requires.2) in
     let filled = c.before.before.if2.false in (
       l.invariant.0,
-      run-most s _ _ a.requires.0 a.requires.3 _ l.invariant.2 l.l _ _ _ lt filled l.invariant.1,
+      run_most s _ _ a.requires.0 a.requires.3 _ l.invariant.2 l.l _ _ _ lt filled l.invariant.1,
       λ m h. rw (a.requires.1 l.l lt) (number_fits s _ _ a.requires.0 a.requires.3 _ l.invariant.2 l.l _ _ _ lt filled l.invariant.1 m _ h filled),
     )
 
@@ -197,10 +197,10 @@ loop2-again c =
     let l = c.before.before.before.before.before.before.before.before.before.loop2 in
     let a = c.before.before.before.before.before.before.before.before.before.before.before.before.before.before.before in
     let s = a.args.s.now in
-    let lt : l.l < linksOf s = omega (arith, l.invariant.2.exists, c.before.before.before.before.before.before.before.before.loop2-test.true, a.requires.2) in
+    let lt : l.l < links_of s = omega (arith, l.invariant.2.exists, c.before.before.before.before.before.before.before.before.loop2-test.true, a.requires.2) in
     let filled = c.before.before.before.before.before.if2.false in
-    let w = c.before.before.first-row.ensures in
-    (w.0, rw add-one (listing-run s _ _ a.requires.0 a.requires.3 _ l.invariant.2 l.l _ _ _ lt filled l.invariant.1 _ _ l.invariant.4 (a.requires.1 l.l lt) w.1), l.invariant.2, omega arith, omega arith)
+    let w = c.before.before.first_row.ensures in
+    (w.0, rw add-one (listing_run s _ _ a.requires.0 a.requires.3 _ l.invariant.2 l.l _ _ _ lt filled l.invariant.1 _ _ l.invariant.4 (a.requires.1 l.l lt) w.1), l.invariant.2, omega arith, omega arith)
 
 same-length-3 : tie.Need-same-length-3 invariant-loop decreases-loop invariant-loop2 decreases-loop2
 same-length-3 c = omega (arith, c.before.loop2.invariant.0, c.before.before.before.before.before.before.before.requires.4)
@@ -210,9 +210,9 @@ returns-3 c =
     let l = c.before.loop2 in
     let a = c.before.before.before.before.before.before.before in
     let s = a.args.s.now in
-    let end : l.l ≡ linksOf s = omega (arith, l.invariant.3, a.requires.2) in
+    let end : l.l ≡ links_of s = omega (arith, l.invariant.3, a.requires.2) in
     let L = rw end at l.invariant.1 in
-    (l.invariant.0, built-all s _ _ _ _ l.starts (omega (arith, L.most, cells-in-range s a.requires.0)) L.built)
+    (l.invariant.0, built_all s _ _ _ _ l.starts (omega (arith, L.most, cells_in_range s a.requires.0)) L.built)
 
 pub runs-of-spec : {M : Type 1} → statement M
 runs-of-spec =

@@ -1,5 +1,5 @@
 -- `turn_records::turns::check_turn` meets its contract. Assumes nothing.
-use Rattle.certificate.specs.Records.{turnFault}
+use Rattle.certificate.specs.Records.{turn_fault}
 use borrow.Author.Rules.{rules}
 use Rattle.turn_records.proofs.turns.check_turn.Statement.{statement}
 use Rattle.turn_records.proofs.turns.check_turn.Tie as tie
@@ -20,7 +20,7 @@ record-result-requires : tie.Need-record-result-requires
 record-result-requires c κs = search rules
 
 returns : tie.Need-returns
-unfolding turnFault
+unfolding turn_fault
 returns c = rw (← c.before.before.before.before.before.before.requires.2, ← c.before.before.before.before.turn_at.ensures.0, ← c.before.before.before.marked-as.ensures, ← c.before.before.check-opened.ensures, ← c.before.turn-ok.ensures) c.record-result.ensures
 
 pub check-turn-spec : {M : Type 1} → statement M

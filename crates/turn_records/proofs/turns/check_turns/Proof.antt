@@ -2,22 +2,22 @@
 use Prim.Native.Nat.{◌-◌}
 use mathlib.Core.Path.{◌≡◌}
 use borrow.Author.Rules.{rules}
-use Rattle.certificate.specs.Checks.{firstFrom}
-use Rattle.certificate.specs.Records.{turnFault}
+use Rattle.certificate.specs.Checks.{first_from}
+use Rattle.certificate.specs.Records.{turn_fault}
 use Rattle.turn_records.specs.ShareTotals.{SharesBefore}
 use Rattle.octets.proofs.Cases.{go_on, stop, end}
-use Rattle.turn_records.proofs.TurnTotals.{shares-none, shares-next}
+use Rattle.turn_records.proofs.TurnTotals.{shares_none, shares_next}
 use Rattle.turn_records.proofs.turns.check_turns.Statement.{statement}
 use Rattle.turn_records.proofs.turns.check_turns.Tie as tie
 
 abbrev invariant-loop : tie.invariant-loop
-invariant-loop s start links turns total₀ t₀ total t = (firstFrom turns (turnFault s) t ≡ firstFrom turns (turnFault s) 0) × SharesBefore s t total
+invariant-loop s start links turns total₀ t₀ total t = (first_from turns (turn_fault s) t ≡ first_from turns (turn_fault s) 0) × SharesBefore s t total
 
 abbrev decreases-loop : tie.decreases-loop
 decreases-loop s start links turns total₀ t₀ total t = turns - t
 
 loop-holds : tie.Need-loop-init invariant-loop decreases-loop
-loop-holds c = (search rules, shares-none _)
+loop-holds c = (search rules, shares_none _)
 
 share-total-requires : tie.Need-share-total-requires invariant-loop decreases-loop
 share-total-requires c κs = search rules
@@ -38,7 +38,7 @@ loop-again : tie.Need-loop-preserved invariant-loop decreases-loop
 loop-again c =
     let turn = c.before.before.before in (
       go_on _ _ _ _ _ turn.before.loop-test.true c.before.before.check-turn.ensures c.if1.false turn.before.before.loop.invariant.0,
-      shares-next _ turn.before.before.loop.invariant.1 turn.share-total.ensures c.before.before.check-turn.ensures c.if1.false,
+      shares_next _ turn.before.before.loop.invariant.1 turn.share_total_lem.ensures c.before.before.check-turn.ensures c.if1.false,
     )
 
 accept-requires : tie.Need-accept-requires invariant-loop decreases-loop

@@ -1,12 +1,12 @@
 -- `turn_records::turns::turn_ascends` meets its contract. Assumes nothing.
 use mathlib.Core.Path.{◌∙◌}
-use Rattle.turn_records.proofs.TurnTotals.{turn-first, turn-after}
+use Rattle.turn_records.proofs.TurnTotals.{turn_first, turn_after}
 use borrow.Author.Rules.{rules}
 use Rattle.turn_records.proofs.turns.turn_ascends.Statement.{statement}
 use Rattle.turn_records.proofs.turns.turn_ascends.Tie as tie
 
 returns : tie.Need-returns
-returns c = search turn-first
+returns c = search turn_first
 
 sub-from-of : tie.Need-overflow-sub-from-of
 sub-from-of c = search rules
@@ -30,7 +30,7 @@ pair-below-requires : tie.Need-pair-below-requires
 pair-below-requires c κs = search rules
 
 returns-2 : tie.Need-returns-2
-returns-2 c = c.pair-below.ensures ∙ rw (c.before.before.before.before.from-of.ensures.0, c.before.before.before.to-of.ensures.0, c.before.before.from-of2.ensures.0, c.before.to-of2.ensures.0) (turn-after _ _ c.before.before.before.before.before.if1.false)
+returns-2 c = c.pair-below.ensures ∙ rw (c.before.before.before.before.from-of.ensures.0, c.before.before.before.to-of.ensures.0, c.before.before.from-of2.ensures.0, c.before.to-of2.ensures.0) (turn_after _ _ c.before.before.before.before.before.if1.false)
 
 pub turn-ascends-spec : {M : Type 1} → statement M
 turn-ascends-spec =
