@@ -8,6 +8,7 @@
 //   W size start               write into a buffer of this size
 //   T n bytes                  listing
 //   M n more bytes             comparison: a certificate of n bytes, and one of `more` bytes behind it
+#![tactic(auto)]
 use libc::STDIN_FILENO;
 
 // The most bytes and queues that a call has, two certificates for a comparison, and the largest buffer that it is lent.

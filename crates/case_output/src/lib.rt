@@ -1,4 +1,5 @@
 // Printing the lines of results, and the buffer that a write is lent.
+#![tactic(auto)]
 
 pub mod buffer;
 

@@ -1,5 +1,6 @@
 // Reports, the answer of every call, and the limits of the format. The definitions of a certificate stand in specs/: there is
 // nothing to execute.
+#![tactic(auto)]
 
 pub mod limits;
 

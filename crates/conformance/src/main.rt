@@ -1,5 +1,6 @@
 // Runs the stored cases that standard input holds, and prints a line for each case and call.
 // A case is the byte C and its calls (crate case_input); the byte E ends the stream.
+#![tactic(auto)]
 use case_input::Call;
 use controller::Controller;
 

@@ -1,2 +1,3 @@
 // Entries: the fields of their records.
+#![tactic(auto)]
 pub mod entries;

@@ -1,5 +1,6 @@
 // What judging finds out once of a certificate, as tables, and once of an entry: its task, the edges of its cell, what its links may send,
 // and the ends of its image before arrivals.
+#![tactic(auto)]
 
 pub mod amounts;
 pub mod entry;

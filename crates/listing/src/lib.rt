@@ -1,4 +1,5 @@
 // The listing of a certificate as text.
+#![tactic(auto)]
 ghost use Rattle.listing_text.specs.Listing.{listing_of, Sent};
 
 mod render;

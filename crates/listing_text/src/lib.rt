@@ -1,1 +1,2 @@
 // The text of a listing. Definitions only: there is nothing to execute.
+#![tactic(auto)]
