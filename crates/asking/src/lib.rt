@@ -17,7 +17,7 @@ use rank_tables::lookup;
 use signal_records::signals;
 
 // What a query finds: its report, the signal and its green byte, and the mode that the state passes to.
-#[derive(Drop)]
+#[derive(Clone, Copy)]
 pub struct Found {
     pub report: Report,
     pub signal: u8,

@@ -22,7 +22,7 @@ pub const MOST_LENT: usize = 49152;
 pub const BROKEN: usize = 18446744073709551615;
 
 // One call as the stream has it.
-#[derive(Drop)]
+#[derive(Clone, Copy)]
 pub struct Call {
     pub mark: u8,
     // How many bytes or queues it has, or the size of its buffer, or BROKEN.

@@ -5,7 +5,7 @@
 pub mod limits;
 
 // The answer of a call: its number (0 is success, else the refusal), places A and B, and the count of successors looked up.
-#[derive(Drop)]
+#[derive(Clone, Copy)]
 pub struct Report {
     pub number: u8,
     pub a: u32,
@@ -14,7 +14,7 @@ pub struct Report {
 }
 
 // What the street cabinet reads of an entry of the policy: all but its rank.
-#[derive(Drop)]
+#[derive(Clone, Copy)]
 pub struct CabinetEntry {
     pub cell: usize,
     pub mode: usize,
@@ -23,7 +23,7 @@ pub struct CabinetEntry {
 }
 
 // What the bench reads of it: the rank as well.
-#[derive(Drop)]
+#[derive(Clone, Copy)]
 pub struct BenchEntry {
     pub shown: CabinetEntry,
     pub rank: usize,

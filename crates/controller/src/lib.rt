@@ -20,7 +20,7 @@ pub struct Controller {
 }
 
 // The limits of the format, by name.
-#[derive(Drop)]
+#[derive(Clone, Copy)]
 pub struct Limits {
     pub links: usize,
     pub turns: usize,

@@ -16,11 +16,10 @@ use Rattle.certificate.proofs.Size.{readable_fits}
 use Rattle.judging.specs.Verdict.{verdict_of}
 use Rattle.judging.proofs.Deciding.{Tells, tells_false}
 use Rattle.judging.proofs.Verdicts.{accepted_is_plain, verdict_of_long}
-use Rattle.covering.specs.declared.Comparison.{Comparison}
-use Rattle.covering.specs.declared.Comparison.TheVariants.{Equal, First, Second, Neither, Refused}
+use Rattle.covering.specs.declared.Comparison.TheVariants.{Refused}
 use Rattle.covering.specs.Covering.{covers, Covers}
 use Rattle.covering.specs.Comparing.{better_of, or_refused, comparison_of, report_of, better_number, compared_report}
-use Rattle.covering.specs.Laws.{Accepted, Compared, ComparisonIs, ComparedNumber, NumberIs, ComparisonOfLong}
+use Rattle.covering.specs.Laws.{Accepted, ComparisonIs, NumberIs, ComparisonOfLong}
 use Rattle.covering.proofs.Order.{covers_is_plain}
 
 -- whether the first and whether the second covers, read off the number of the answer

@@ -3,8 +3,8 @@ use Prim.Native.Nat.{ℕ, ◌+◌, ◌*◌, ◌≤◌, ◌<◌}
 use mathlib.Core.List.{List}
 use mathlib.Core.Path.{◌≡◌, sym, ap, ◌∙◌}
 use native.Mathlib.Omega.{arith}
-use lib.ListN.{length, get_or}
-use Rattle.certificate.specs.Layout.{links_of, cap_of, boxes_of, arrivals_start, arrival_at, low_of, high_of, cell_of, mode_of}
+use lib.ListN.{get_or}
+use Rattle.certificate.specs.Layout.{links_of, boxes_of, arrivals_start, arrival_at, low_of, high_of, cell_of}
 use Rattle.certificate.specs.Facts.{Readable}
 use Rattle.certificate.proofs.Offsets.{starts, box_end}
 use Rattle.certificate.proofs.Front.{AgreeBefore, u16_same, links_same, boxes_same, cap_same, grid_place_lem}
@@ -12,10 +12,9 @@ use Rattle.grid.specs.Cells.{InCell, cell_at}
 use Rattle.grid.proofs.Intervals.{one_cell}
 use Rattle.grid.proofs.Alike.{cell_alike}
 use Rattle.runs.specs.Fractions.{Fraction, scale_of, over_scale}
-use Rattle.runs.specs.Runs.{Step, no_step, InForce, start, ProperQueues, ProperStep, ProperSteps}
+use Rattle.runs.specs.Runs.{Step, no_step, ProperQueues, ProperStep}
 use Rattle.runs.proofs.Fractions.{scale_positive}
-use Rattle.covering.specs.Covering.{Covers}
-use Rattle.covering.specs.Laws.{BeginsToo, CoversBegins}
+use Rattle.covering.specs.Laws.{CoversBegins}
 
 module _ {s t : List ℕ} (R : Readable s) (A : AgreeBefore s t) where
   -- the arrival boxes are the same

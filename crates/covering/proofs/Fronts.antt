@@ -1,5 +1,5 @@
 -- The bytes before the first entry agree, the entry count left aside, exactly if the fields there do. Assumes nothing.
-use Prim.Native.Nat.{ℕ, zero, suc, ◌+◌, ◌*◌, ◌-◌, ◌≤◌, ◌<◌}
+use Prim.Native.Nat.{ℕ, zero, suc, ◌+◌, ◌*◌, ◌-◌, ◌<◌}
 use mathlib.Core.Bool.{Bool, true, false, cond}
 use mathlib.Core.List.{List, [], ◌∷◌, ◌++◌}
 use mathlib.Core.Logic.{inl, inr}
@@ -7,9 +7,9 @@ use mathlib.Core.Path.{◌≡◌, refl, sym, ap, ◌∙◌}
 use native.Mathlib.Omega.{arith}
 use lib.ListN.{length}
 use Rattle.certificate.specs.Octets.{byte_at}
-use Rattle.certificate.specs.Layout.{entry_size, kind_byte_of, links_of, turns_of, signals_of, modes_of, boxes_of, entries_of, remembers, takes_turns, start_flow_of, mode_records_of, goal_number_of, goal_for, intervals_of, cut_of, low_of, high_of, entries_start, end_at}
+use Rattle.certificate.specs.Layout.{entry_size, kind_byte_of, links_of, turns_of, signals_of, boxes_of, entries_of, remembers, takes_turns, start_flow_of, mode_records_of, goal_number_of, goal_for, intervals_of, entries_start, end_at}
 use Rattle.certificate.specs.Due.{LK, TN, SG, MD, GR, AR, EN, ZZ}
-use Rattle.certificate.specs.Fields.{Field, byte, u16, Stand, each, start_field, goal_fields, fields_of, records_of}
+use Rattle.certificate.specs.Fields.{Field, byte, u16, Stand, each, fields_of, records_of}
 use Rattle.certificate.specs.Facts.{HeaderMark, Readable}
 use Rattle.certificate.proofs.Front.{AgreeBefore, links_same, turns_same, signals_same, modes_same, boxes_same, remembers_same, turning_same, intervals_same}
 use Rattle.certificate.proofs.Offsets.{starts}

@@ -9,7 +9,6 @@ use Rattle.judging.specs.Verdict.{verdict_of}
 use Rattle.judging.specs.Conditions.{Lists}
 use Rattle.runs.specs.Fractions.{Fraction}
 use Rattle.runs.specs.Runs.{Step, start, InForce, ProperQueues, ProperSteps}
-use Rattle.covering.specs.declared.Comparison.{Comparison}
 use Rattle.covering.specs.declared.Comparison.TheVariants.{Equal, First, Second, Neither, Refused}
 use Rattle.covering.specs.Covering.{SameFront, Covers, covers}
 use Rattle.covering.specs.Comparing.{comparison_of, report_of, better_number, compared_report}

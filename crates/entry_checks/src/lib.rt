@@ -14,7 +14,7 @@ use mode_records::{goals, modes};
 
 // How many signals, modes and cells there are, whether modes remember the signal shown before, whether they have goals in turn, where
 // the records of modes stand, and the greatest goal number.
-#[derive(Drop)]
+#[derive(Clone, Copy)]
 pub struct Counts {
     pub signals: usize,
     pub modes: usize,

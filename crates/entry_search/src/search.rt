@@ -146,7 +146,7 @@ fn runs_passed(
 }
 
 // What looking at one cell gives: the number of its refusal, or 0; and 1 where it was looked up, else 0.
-#[derive(Drop)]
+#[derive(Clone, Copy)]
 struct Looked {
     number: u8,
     looked: u32,
@@ -178,7 +178,7 @@ fn look<'a>(
 }
 
 // Where the search of a box in order begins, and how many successors were looked up before.
-#[derive(Drop)]
+#[derive(Clone, Copy)]
 struct Start {
     cell: usize,
     looked: u32,
@@ -214,7 +214,7 @@ fn whole_box<'a>(
 }
 
 // What the search of an entry gives: its report, and whether some link may exceed its cap in some box, where no successor is refused.
-#[derive(Drop)]
+#[derive(Clone, Copy)]
 pub struct Searched {
     pub report: Report,
     pub over: bool,

@@ -7,7 +7,7 @@ pub mod entry;
 
 // What the search through an entry's successors goes by: how many arrival boxes and cells there are, and the entry's number,
 // where the ranks of its next mode stand, its own rank, and the most that the table of ranks may have for a successor.
-#[derive(Drop)]
+#[derive(Clone, Copy)]
 pub struct Task {
     pub boxes: usize,
     pub cells: usize,

@@ -11,7 +11,7 @@ use mode_records::modes;
 use road_records::links;
 
 // How many links there are, where the records of modes and of entries begin, and how long those of modes are.
-#[derive(Drop)]
+#[derive(Clone, Copy)]
 pub struct Where {
     pub links: usize,
     pub modes_start: usize,
@@ -20,7 +20,7 @@ pub struct Where {
 }
 
 // Where the goals of an entry's mode stand: that of link 0, and how far apart those of two links are.
-#[derive(Drop)]
+#[derive(Clone, Copy)]
 struct GoalRow {
     first: usize,
     apart: usize,
@@ -50,7 +50,7 @@ fn goal_row(s: &[u8], at: Where, e: usize) -> GoalRow
 }
 
 // The upper edges of entry e's cell are all at most safe; all at most the goal of its mode.
-#[derive(Drop)]
+#[derive(Clone, Copy)]
 struct CellFits {
     safe: bool,
     goal: bool,

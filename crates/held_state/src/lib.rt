@@ -12,7 +12,7 @@ use controller::{Controller, Shown};
 use verdict::Verdict;
 
 // What is displayed for a query or a poll: its report, the signal to show and its green byte.
-#[derive(Drop)]
+#[derive(Clone, Copy)]
 pub struct Display {
     pub report: Report,
     pub signal: u8,

@@ -39,7 +39,7 @@ fn sent_by(
 }
 
 // A link that sends: its number, where its turns begin and end, and the most that it may send, in hundredths.
-#[derive(Drop)]
+#[derive(Clone, Copy)]
 struct Sender {
     link: usize,
     from: usize,

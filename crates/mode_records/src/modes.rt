@@ -7,7 +7,7 @@ ghost use Rattle.octets.specs.Bounds.{start_bound};
 use certificate::limits;
 
 // Where the records of modes begin, and the size of each.
-#[derive(Drop)]
+#[derive(Clone, Copy)]
 pub struct Place {
     pub start: usize,
     pub size: usize,

@@ -76,7 +76,7 @@ pub fn refused(report: Report) -> Reading
 }
 
 // Where the records of turns, signals, modes and grids begin.
-#[derive(Drop)]
+#[derive(Clone, Copy)]
 struct Starts {
     turns: usize,
     signals: usize,

@@ -50,4 +50,4 @@ module _ (s : List ℕ) (S : Steady s) where
   unfolding after
   listed {e} R zero le = (e, R.in_force)
   listed {steps = []} R (suc k) le = absurd (omega arith)
-  listed {steps = p ∷ ps} R (suc k) le = listed (rest R) k (omega arith)
+  listed {r} {steps = p ∷ ps} R (suc k) le = listed {r = stepped s r p} (rest R) k (omega arith)

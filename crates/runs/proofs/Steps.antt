@@ -88,7 +88,7 @@ unfolding stepped moved
 remembers_on s R r p M = go (has_entry s r) refl
   where
     go : (b : Bool) → has_entry s r ≡ b → Remembered s (cond b (moved s r p (entry_in s r)) r)
-    go true e k = sym (R.passes_on (entry_in s r) (entry_exists s r e) k)
+    go true e k = sym (R.passes_on_fact (entry_in s r) (entry_exists s r e) k)
     go false e k = M k
 
 -- where an entry is in force the lookup finds it, and a step goes by it

@@ -1,5 +1,5 @@
 -- Where no entry is counted, no arrival is turned away along a run. Assumes nothing.
-use Prim.Native.Nat.{ℕ, zero, suc, ◌+◌, ◌≤◌, ◌<◌}
+use Prim.Native.Nat.{ℕ, zero, suc, ◌≤◌, ◌<◌}
 use mathlib.Core.Bool.{false}
 use mathlib.Core.List.{List, [], ◌∷◌}
 use mathlib.Core.Path.{◌≡◌, refl}
@@ -47,7 +47,7 @@ module _ (s : List ℕ) (S : Screened s) (steadily : Steady s) (none : (e : ℕ)
   each {steps = []} R k lt = absurd (omega arith)
   each {r} {e} {steps = p ∷ ps} R zero lt =
       (e, R.in_force, step_takes_all s S r e p R.in_force R.scale R.remembered (R.proper zero (omega arith)) (none e R.in_force.exists))
-  each {steps = p ∷ ps} R (suc k) lt = each (rest s steadily R) k (omega arith)
+  each {r} {steps = p ∷ ps} R (suc k) lt = each {r = stepped s r p} (rest s steadily R) k (omega arith)
 
 pub none_turned_away : NoneTurnedAway
 none_turned_away s accepted zeros mode queues steps e Q P F k lt =

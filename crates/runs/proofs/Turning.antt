@@ -24,7 +24,7 @@ module _ (s : List ℕ) (S : Steady s) (R : Readable s) where
   unfolding after
   run_at P zero le f F = record { scale = P.scale; in_force = F; remembered = P.remembered; proper = P.proper }
   run_at {steps = []} P (suc k) le f F = absurd (omega arith)
-  run_at {steps = p ∷ ps} P (suc k) le f F = run_at (rest s S P) k (omega arith) f F
+  run_at {r} {steps = p ∷ ps} P (suc k) le f F = run_at {r = stepped s r p} (rest s S P) k (omega arith) f F
 
   moment_add : (r : RunState) (steps : List Step) (k j : ℕ) → k ≤ length steps → moment_of s (moment_of s r steps k) (drop k steps) j ≡ moment_of s r steps (k + j)
   unfolding after
@@ -85,10 +85,10 @@ module _ (s : List ℕ) (S : Steady s) (R : Readable s) where
   met_from : {r : RunState} {e : ℕ} {steps : List Step} → Run s r e steps → (n : ℕ) → rank_of s e ≤ n → n ≤ length steps → Visit s (moment_of s r steps) 0 n
   met_from P zero rank le = met_now P zero (omega arith)
   met_from {steps = []} P (suc n) rank le = absurd (omega arith)
-  met_from {e = e} {steps = p ∷ ps} P (suc n) rank le =
+  met_from {r} {e} {steps = p ∷ ps} P (suc n) rank le =
       ⊎_elim
       (λ z. met_now P (suc n) z)
-      (λ above. met_later P above (met_from (rest s S P) n (omega (arith, (first s S P).lower above)) (omega arith)))
+      (λ above. met_later P above (met_from {r = stepped s r p} (rest s S P) n (omega (arith, (first s S P).lower above)) (omega arith)))
       (eq-zero-or-pos (rank_of s e))
 
   at_start : (r : RunState) (steps : List Step) → moment_of s r steps 0 ≡ r
@@ -124,7 +124,7 @@ module _ (s : List ℕ) (S : Steady s) (R : Readable s) where
   next_mode {steps = []} P k f lt F = absurd (omega arith)
   next_mode {r} {steps = p ∷ ps} P zero f lt F =
       ((S.step r f p F P.scale P.remembered (P.proper zero (omega arith))).next_mode, sym F.mode)
-  next_mode {steps = p ∷ ps} P (suc k) f lt F = next_mode (rest s S P) k f (omega arith) F
+  next_mode {r} {steps = p ∷ ps} P (suc k) f lt F = next_mode {r = stepped s r p} (rest s S P) k f (omega arith) F
 
 -- and so on: from the other parts of the claim alone
 module _ (s : List ℕ) (moment : ℕ → RunState) (n : ℕ)

@@ -1,5 +1,5 @@
 -- A run: a certificate, first queues, a first mode and a list of steps. It begins after the signal that the first mode remembers.
-use Rattle.std.specs.Prelude.{ℕ, ◌+◌, ◌*◌, ◌≤◌, ◌<◌, List, [], ◌∷◌, Bool, true, ◌&&◌, cond, ◌≡◌, length, take, get_or, leb, ltb}
+use Rattle.std.specs.Prelude.{ℕ, ◌*◌, ◌≤◌, ◌<◌, List, [], ◌∷◌, Bool, true, ◌&&◌, cond, ◌≡◌, length, take, get_or, leb, ltb}
 use Rattle.certificate.specs.Loops.{every}
 use Rattle.certificate.specs.Layout.{links_of, cap_of, safe_of, goal_of, boxes_of, low_of, high_of, entries_of, cell_of, mode_of, signal_of, next_mode_of, remembers, shown_before}
 use Rattle.network.specs.Network.{network_of, limit_of}

@@ -11,7 +11,7 @@ use cell_tables::tables;
 use certificate::limits;
 
 // The range of one link.
-#[derive(Drop)]
+#[derive(Clone, Copy)]
 struct Range {
     first: usize,
     last: usize,

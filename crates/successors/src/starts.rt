@@ -14,7 +14,7 @@ use certificate::limits;
 use octets::numbers;
 
 // How many runs there are, and how many cells each has.
-#[derive(Drop)]
+#[derive(Clone, Copy)]
 pub struct Runs {
     pub count: usize,
     pub size: usize,

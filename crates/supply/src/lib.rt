@@ -17,21 +17,21 @@ use turn_records::turns;
 const MOST_SENT: usize = 100 * limits::MAX_CAP;
 
 // What a link has room for, at lower and at upper queues.
-#[derive(Drop)]
+#[derive(Clone, Copy)]
 pub struct Rooms {
     pub lower: usize,
     pub upper: usize,
 }
 
 // The least of some numbers, and the least of the others.
-#[derive(Drop)]
+#[derive(Clone, Copy)]
 pub struct Two {
     pub least: usize,
     pub next: usize,
 }
 
 // The two least supplies of a link's turns, at lower and at upper queues.
-#[derive(Drop)]
+#[derive(Clone, Copy)]
 pub struct Least {
     pub lower: Two,
     pub upper: Two,

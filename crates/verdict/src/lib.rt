@@ -25,7 +25,7 @@ use rank_tables::{index, ranks};
 use reading::{Layout, Reading};
 
 // The verdict: the report, and in an acceptance the number of entries that may turn arrivals away (0 in a refusal).
-#[derive(Drop)]
+#[derive(Clone, Copy)]
 pub struct Verdict {
     pub report: Report,
     pub overflows: u32,

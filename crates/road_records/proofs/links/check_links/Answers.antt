@@ -1,0 +1,16 @@
+use Prim.Native.Nat.{◌-◌}
+use mathlib.Core.Path.{◌≡◌}
+use borrow.Author.Rules.{rules}
+use Rattle.certificate.specs.Checks.{first_from}
+use Rattle.certificate.specs.Records.{link_fault}
+use Rattle.octets.proofs.Cases.{go_on, stop, end}
+use Rattle.road_records.proofs.links.check_links.Goals as goal
+
+pub returns-then-f-ne0 : goal.returns-then-f-ne0
+returns-then-f-ne0 c = search stop
+
+pub loop-l-preserved : goal.loop-l-preserved
+loop-l-preserved c = search go_on
+
+pub returns : goal.returns
+returns c = search end

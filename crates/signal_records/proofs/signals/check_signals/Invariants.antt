@@ -1,0 +1,14 @@
+-- `signal_records::signals::check_signals` meets its contract.
+use Prim.Native.Nat.{◌-◌}
+use mathlib.Core.Path.{◌≡◌}
+use borrow.Author.Rules.{rules}
+use Rattle.certificate.specs.Checks.{first_from}
+use Rattle.certificate.specs.Records.{signal_fault}
+use Rattle.octets.proofs.Cases.{go_on, stop, end}
+use Rattle.signal_records.proofs.signals.check_signals.Given as goal
+
+abbrev pub invariant-loop-g : goal.invariant-loop-g
+invariant-loop-g l = first_from l.signals (signal_fault l.s) l.g ≡ first_from l.signals (signal_fault l.s) 0
+
+abbrev pub decreases-loop-g : goal.decreases-loop-g
+decreases-loop-g l = l.signals - l.g

@@ -1,0 +1,15 @@
+-- `text::decimal_length` meets its contract.
+use mathlib.Core.Path.{◌≡◌}
+use Prim.Native.Nat.{◌+◌, ◌<◌, ◌^◌}
+use native.Mathlib.Omega.{arith}
+use lib.ListN.{length}
+use Rattle.listing_text.specs.Text.{decimal}
+use Rattle.listing_text.proofs.Digits.{length_one, length_step, decimal_fits}
+use Rattle.text.proofs.decimal_length.Given as goal
+
+-- the digits passed and those of what is left are all
+abbrev pub invariant-loop-left : goal.invariant-loop-left
+invariant-loop-left l = (l.left < 10 ^ 10) × (l.k + length (decimal l.left) ≡ length (decimal l.n) + 1)
+
+abbrev pub decreases-loop-left : goal.decreases-loop-left
+decreases-loop-left l = l.left
