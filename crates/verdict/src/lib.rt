@@ -32,7 +32,7 @@ pub struct Verdict {
 }
 
 // The verdict with the layout of an accepted certificate.
-#[derive(Drop)]
+#[derive(Clone, Copy)]
 pub struct Judged {
     pub reading: Reading,
     pub overflows: u32,
