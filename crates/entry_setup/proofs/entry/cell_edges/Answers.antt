@@ -27,6 +27,6 @@ loop-l-preserved c = let s = c.args.s.now in
 
 pub returns : goal.returns
 returns c = record {
-      lower_is = λ l lt. c.loop-l.invariant.0.1 l (omega (arith, c.requires.3));
-      upper_is = λ l lt. c.loop-l.invariant.1.1 l (omega (arith, c.requires.3));
-    }
+  lower_is = λ l lt. c.loop-l.invariant.0.1 l (omega (arith, c.requires.3));
+  upper_is = λ l lt. c.loop-l.invariant.1.1 l (omega (arith, c.requires.3));
+}
