@@ -1,7 +1,7 @@
 -- The list of all runs, built link by link: the numbers so far that lie in the ranges, with one link more. Assumes nothing.
 use Prim.Native.Nat.{ℕ, zero, suc, ◌+◌, ◌*◌, ◌-◌, ◌/◌, ◌%◌, ◌≤◌, ◌<◌}
 use mathlib.Core.List.{List}
-use mathlib.Core.Bool.{Bool, true, false, ◌&&◌, false≢true}
+use mathlib.Core.Bool.{Bool, true, ◌&&◌, false≢true}
 use mathlib.Core.Path.{◌≡◌, refl, sym, ◌∙◌}
 use mathlib.Core.Logic.{◌⊎◌, inl, inr, ⊎_elim}
 use native.Mathlib.Nat.{add-mul, mul_assoc, mul_comm, mul-one, one-mul, suc-mul, mul-le-mul, mul-le-mul_left, mul-le-mul_right, one-le-mul, eq-or-lt_of_le, div-add-mod', mod-lt, div-lt_iff_lt-mul}
