@@ -9,7 +9,8 @@
 //   T n bytes                  listing
 //   M n more bytes             comparison: a certificate of n bytes, and one of `more` bytes behind it
 #![tactic(auto)]
-use libc::STDIN_FILENO;
+
+use std::io::{self, ErrorKind, Read};
 
 // The most bytes and queues that a call has, two certificates for a comparison, and the largest buffer that it is lent.
 pub const MOST_BYTES: usize = 81920;
@@ -35,10 +36,10 @@ pub struct Call {
     pub mode: u8,
 }
 
-pub fn octet() -> u8 {
+pub fn octet(input: &mut impl Read) -> io::Result<u8> {
     let mut one = [0u8; 1];
-    io::read_full(STDIN_FILENO, &mut one);
-    one[0]
+    fill(input, &mut one)?;
+    Ok(one[0])
 }
 
 fn joined(high: u32, low: u32) -> u64 {
@@ -53,34 +54,43 @@ fn coupled(high: u8, low: u8) -> u16 {
     high as u16 * 256 + low as u16
 }
 
-fn half() -> u16 {
-    let high = octet();
-    coupled(high, octet())
+fn half(input: &mut impl Read) -> io::Result<u16> {
+    let high = octet(input)?;
+    Ok(coupled(high, octet(input)?))
 }
 
-fn word() -> u32 {
-    let high = half();
-    paired(high, half())
+fn word(input: &mut impl Read) -> io::Result<u32> {
+    let high = half(input)?;
+    Ok(paired(high, half(input)?))
 }
 
-fn long() -> u64 {
-    let high = word();
-    joined(high, word())
+fn long(input: &mut impl Read) -> io::Result<u64> {
+    let high = word(input)?;
+    Ok(joined(high, word(input)?))
 }
 
 // Whether the next bytes of the input fill the slice.
-fn fill(bytes: &mut [u8]) -> bool {
-    let n = bytes.len();
-    io::read_full(STDIN_FILENO, bytes) == n
+fn fill(input: &mut impl Read, bytes: &mut [u8]) -> io::Result<bool> {
+    match input.read_exact(bytes) {
+        Ok(()) => Ok(true),
+        Err(e) => {
+            if e.kind() == ErrorKind::UnexpectedEof {
+                Ok(false)
+            } else {
+                Err(e)
+            }
+        }
+    }
 }
 
 // A number for each place.
-fn fill_queues(queues: &mut [u32]) {
+fn fill_queues(input: &mut impl Read, queues: &mut [u32]) -> io::Result<()> {
     let mut i = 0;
     while i < queues.len() {
-        queues[i] = word();
+        queues[i] = word(input)?;
         i += 1;
     }
+    Ok(())
 }
 
 // A call that is known by its count.
@@ -96,98 +106,103 @@ fn with(mark: u8, n: usize) -> Call {
 }
 
 // A count and so many bytes, into the front of a slice: the count.
-fn counted(bytes: &mut [u8]) -> usize {
-    let n = word() as usize;
+fn counted(input: &mut impl Read, bytes: &mut [u8]) -> io::Result<usize> {
+    let n = word(input)? as usize;
     if n > bytes.len() {
-        return BROKEN;
+        return Ok(BROKEN);
     }
-    if !fill(&mut bytes[0..n]) {
-        return BROKEN;
+    if !fill(input, &mut bytes[0..n])? {
+        return Ok(BROKEN);
     }
-    n
+    Ok(n)
 }
 
 // S: bytes, a length, a mode.
-fn read_state(bytes: &mut [u8]) -> Call {
-    let n = counted(bytes);
-    let start = long() as usize;
-    Call {
+fn read_state(input: &mut impl Read, bytes: &mut [u8]) -> io::Result<Call> {
+    let n = counted(input, bytes)?;
+    let start = long(input)? as usize;
+    Ok(Call {
         mark: b'S',
         n,
         more: 0,
         start,
         scale: 0,
-        mode: octet(),
-    }
+        mode: octet(input)?,
+    })
 }
 
 // Q: a scale, a count and so many queues.
-fn read_query(queues: &mut [u32]) -> Call {
-    let scale = word();
-    let n = half() as usize;
+fn read_query(input: &mut impl Read, queues: &mut [u32]) -> io::Result<Call> {
+    let scale = word(input)?;
+    let n = half(input)? as usize;
     if n > queues.len() {
-        return with(b'Q', BROKEN);
+        return Ok(with(b'Q', BROKEN));
     }
-    fill_queues(&mut queues[0..n]);
-    Call {
+    fill_queues(input, &mut queues[0..n])?;
+    Ok(Call {
         mark: b'Q',
         n,
         more: 0,
         start: 0,
         scale,
         mode: 0,
-    }
+    })
 }
 
 // W: the size of the buffer, and a start.
-fn read_write() -> Call {
-    let n = word() as usize;
-    let start = long() as usize;
+fn read_write(input: &mut impl Read) -> io::Result<Call> {
+    let n = word(input)? as usize;
+    let start = long(input)? as usize;
     if n > MOST_LENT {
-        return with(b'W', BROKEN);
+        return Ok(with(b'W', BROKEN));
     }
-    Call {
+    Ok(Call {
         mark: b'W',
         n,
         more: 0,
         start,
         scale: 0,
         mode: 0,
-    }
+    })
 }
 
 // M: two counts and so many bytes.
-fn read_pair(bytes: &mut [u8]) -> Call {
-    let n = word() as usize;
-    let more = word() as usize;
+fn read_pair(input: &mut impl Read, bytes: &mut [u8]) -> io::Result<Call> {
+    let n = word(input)? as usize;
+    let more = word(input)? as usize;
     if n > bytes.len() {
-        return with(b'M', BROKEN);
+        return Ok(with(b'M', BROKEN));
     }
     if more > bytes.len() - n {
-        return with(b'M', BROKEN);
+        return Ok(with(b'M', BROKEN));
     }
-    if !fill(&mut bytes[0..n + more]) {
-        return with(b'M', BROKEN);
+    if !fill(input, &mut bytes[0..n + more])? {
+        return Ok(with(b'M', BROKEN));
     }
-    Call {
+    Ok(Call {
         mark: b'M',
         n,
         more,
         start: 0,
         scale: 0,
         mode: 0,
-    }
+    })
 }
 
 // The call whose mark was read: F, S, L, Q, P, W, T or M.
-pub fn read_call(mark: u8, bytes: &mut [u8], queues: &mut [u32]) -> Call {
+pub fn read_call(
+    input: &mut impl Read,
+    mark: u8,
+    bytes: &mut [u8],
+    queues: &mut [u32],
+) -> io::Result<Call> {
     match mark {
-        b'F' => with(mark, 0),
-        b'S' => read_state(bytes),
-        b'L' | b'P' | b'T' => with(mark, counted(bytes)),
-        b'Q' => read_query(queues),
-        b'W' => read_write(),
-        b'M' => read_pair(bytes),
-        _ => with(mark, BROKEN),
+        b'F' => Ok(with(mark, 0)),
+        b'S' => read_state(input, bytes),
+        b'L' | b'P' | b'T' => Ok(with(mark, counted(input, bytes)?)),
+        b'Q' => read_query(input, queues),
+        b'W' => read_write(input),
+        b'M' => read_pair(input, bytes),
+        _ => Ok(with(mark, BROKEN)),
     }
 }

@@ -4,46 +4,47 @@
 pub mod buffer;
 
 use certificate::Report;
-use libc::STDOUT_FILENO;
+use std::io;
 
 // Text as it stands.
-pub fn text(bytes: &[u8]) {
-    io::write_all(STDOUT_FILENO, bytes);
+pub fn text(rt: &impl Print, bytes: &[u8]) -> io::Result<()> {
+    rt.write_all(bytes)
 }
 
 // A name and a number behind it.
-pub fn field(name: &[u8], number: u64) {
-    text(name);
-    io::print_decimal(STDOUT_FILENO, number);
+pub fn field(rt: &impl Print, name: &[u8], number: u64) -> io::Result<()> {
+    text(rt, name)?;
+    rt.print(number)
 }
 
 // The same of numbers of one and of four bytes.
-pub fn small(name: &[u8], number: u8) {
-    field(name, number as u64);
+pub fn small(rt: &impl Print, name: &[u8], number: u8) -> io::Result<()> {
+    field(rt, name, number as u64)
 }
 
-pub fn medium(name: &[u8], number: u32) {
-    field(name, number as u64);
+pub fn medium(rt: &impl Print, name: &[u8], number: u32) -> io::Result<()> {
+    field(rt, name, number as u64)
 }
 
 // A call's name and its report.
-pub fn report(name: &[u8], r: Report) {
-    text(name);
-    small(b" ", r.number);
-    medium(b" ", r.a);
-    medium(b" ", r.b);
-    medium(b" ", r.count);
+pub fn report(rt: &impl Print, name: &[u8], r: Report) -> io::Result<()> {
+    text(rt, name)?;
+    small(rt, b" ", r.number)?;
+    medium(rt, b" ", r.a)?;
+    medium(rt, b" ", r.b)?;
+    medium(rt, b" ", r.count)
 }
 
-pub fn case(number: u64) {
-    field(b"case ", number);
-    text(b"\n");
+pub fn case(rt: &impl Print, number: u64) -> io::Result<()> {
+    field(rt, b"case ", number)?;
+    text(rt, b"\n")
 }
 
 // The first bytes of a text, as many as a report says.
-pub fn front(bytes: &[u8], count: u32) {
+pub fn front(rt: &impl Print, bytes: &[u8], count: u32) -> io::Result<()> {
     let n = count as usize;
     if n <= bytes.len() {
-        text(&bytes[0..n]);
+        text(rt, &bytes[0..n])?;
     }
+    Ok(())
 }

@@ -1,8 +1,10 @@
 // Runs the stored cases that standard input holds, and prints a line for each case and call.
 // A case is the byte C and its calls (crate case_input); the byte E ends the stream.
 #![tactic(auto)]
+
 use case_input::Call;
 use controller::Controller;
+use std::io::{self, BufReader};
 
 mod calls;
 mod parts;
@@ -20,36 +22,42 @@ fn made(bytes: &[u8], len: usize, mode: u8) -> Controller {
 
 // Makes a call, prints its line, and answers the next state. Writes and listings are lent a buffer; a comparison has two certificates in `bytes`.
 fn answer(
+    rt: &impl Print,
     state: Controller,
     call: Call,
     bytes: &[u8],
     queues: &[u32],
     lent: &mut [u8],
-) -> Controller {
+) -> io::Result<Controller> {
     let mark = call.mark;
     let n = call.n;
     match mark {
-        b'F' => Controller::fresh(),
-        b'S' => made(parts::front(bytes, n), call.start, call.mode),
-        b'L' => calls::do_load(state, parts::front(bytes, n)),
-        b'Q' => calls::do_query(state, parts::front_numbers(queues, n), call.scale),
-        b'P' => calls::do_poll(state, parts::front(bytes, n)),
+        b'F' => Ok(Controller::fresh()),
+        b'S' => Ok(made(parts::front(bytes, n), call.start, call.mode)),
+        b'L' => calls::do_load(rt, state, parts::front(bytes, n)),
+        b'Q' => calls::do_query(rt, state, parts::front_numbers(queues, n), call.scale),
+        b'P' => calls::do_poll(rt, state, parts::front(bytes, n)),
         b'W' => {
-            calls::do_write(state, lent, n, call.start);
-            state
+            calls::do_write(rt, state, lent, n, call.start)?;
+            Ok(state)
         }
         b'M' => {
-            calls::do_compare(parts::front(bytes, n), parts::behind(bytes, n, call.more));
-            state
+            calls::do_compare(
+                rt,
+                parts::front(bytes, n),
+                parts::behind(bytes, n, call.more),
+            )?;
+            Ok(state)
         }
         _ => {
-            calls::do_list(parts::front(bytes, n), lent);
-            state
+            calls::do_list(rt, parts::front(bytes, n), lent)?;
+            Ok(state)
         }
     }
 }
 
-fn main() {
+fn main(rt: HostRuntime) -> io::Result<()> {
+    let mut input = BufReader::new(rt.alloc(), rt.reader())?;
     let mut bytes = [0u8; case_input::MOST_BYTES];
     let mut queues = [0u32; case_input::MOST_QUEUES];
     let mut lent = [0u8; case_input::MOST_LENT];
@@ -58,21 +66,21 @@ fn main() {
     let mut turns = u64::MAX;
     while turns > 0 {
         turns -= 1;
-        let mark = case_input::octet();
+        let mark = case_input::octet(&mut input)?;
         if mark == b'E' {
-            return;
+            return Ok(());
         }
         if mark == b'C' {
-            case_output::case(cases);
+            case_output::case(&rt, cases)?;
             cases = std::num::wrapping_add_u64(cases, 1);
             state = Controller::fresh();
         } else {
-            let call = case_input::read_call(mark, &mut bytes, &mut queues);
+            let call = case_input::read_call(&mut input, mark, &mut bytes, &mut queues)?;
             if call.n == case_input::BROKEN {
-                case_output::text(b"the stream is broken\n");
-                return;
+                return case_output::text(&rt, b"the stream is broken\n");
             }
-            state = answer(state, call, &bytes, &queues, &mut lent);
+            state = answer(&rt, state, call, &bytes, &queues, &mut lent)?;
         }
     }
+    Ok(())
 }

@@ -1,12 +1,13 @@
 // Lists a certificate: standard input to standard output. Bytes past the greatest length of a certificate and one more change no
 // listing (listing_text `ListingOfLong`), so no more are read.
 #![tactic(auto)]
+
 ghost use Rattle.std.specs.Prelude.{◌≡◌, ◌≤◌, length, take};
 ghost use Rattle.listing_text.specs.Listing.{listing_of};
 ghost use Rattle.listing_text.specs.Laws.{max_listing};
 
 use certificate::limits;
-use libc::{STDIN_FILENO, STDOUT_FILENO};
+use std::io::{self, Read};
 
 // Lists the first n bytes of the input: the text, which has room for every listing, then begins with the whole of it, and the answer
 // is how long that is.
@@ -18,10 +19,11 @@ fn listed(bytes: &[u8], n: usize, text: &mut [u8]) -> usize
     report.a as usize
 }
 
-fn main() {
-    let mut bytes = [0u8; limits::MAX_LENGTH + 1];
-    let n = io::read_full(STDIN_FILENO, &mut bytes);
+fn main(rt: HostRuntime) -> io::Result<()> {
+    let mut bytes = Vec::new(rt.alloc());
+    let mut input = rt.reader().take(limits::MAX_LENGTH as u64 + 1);
+    input.read_to_end(&mut bytes)?;
     let mut text = [0u8; listing::MAX_TEXT];
-    let end = listed(&bytes, n, &mut text);
-    io::write_all(STDOUT_FILENO, &text[0..end]);
+    let end = listed(&bytes, bytes.len(), &mut text);
+    rt.write_all(&text[0..end])
 }

@@ -11,7 +11,7 @@ use Rattle.certificate.specs.declared.Report.{Report}
 use Rattle.reading.specs.declared.Reading.{Reading}
 use Rattle.reading.specs.declared.Starts.{Starts}
 use Rattle.certificate.specs.Loops.{pick}
-use Rattle.certificate.specs.Checks.{or_else}
+use Rattle.certificate.specs.Checks.{or_else, first_bad}
 use Rattle.certificate.specs.Layout.{max_links, max_modes, turn_size, signal_size, arrival_size, links_of, turns_of, signals_of, modes_of, boxes_of, entries_of, link_at, turns_start, signals_start, mode_records_of, modes_start, mode_at, grid_start, grid_at, arrivals_start, entries_start}
 use Rattle.certificate.specs.Records.{header_fault, end_fault}
 use Rattle.certificate.specs.Reading.{links_fault, turns_fault, signals_fault, reading_of}
@@ -27,6 +27,10 @@ use Rattle.octets.proofs.FilledTables.{table_is}
 use Rattle.box_records.proofs.Products.{box_offset}
 use Rattle.certificate.proofs.Offsets.{grid_end}
 use Rattle.certificate.proofs.Records.{header_says}
+
+-- so many records were tested as there are
+pub as_many : {n m : ℕ} {r : Report} (f : ℕ → Report) → n ≡ m → r ≡ first_bad n f → r ≡ first_bad m f
+as_many f e h = rw (← e) h
 
 -- what a stage refuses is the answer, with no layout
 pub refused_as : {s : List ℕ} {f fault : Report} {r : Reading} → (r.report ≡ f) × (r.layout ≡ no_layout) → (f.number ≡ 0 → ⊥) → f ≡ fault → ReadAs s fault r

@@ -1,5 +1,6 @@
 // A whole certificate: every record in its turn, and where the records stand.
 #![tactic(auto)]
+
 ghost use Rattle.std.specs.Prelude.{◌≡◌, ◌≤◌};
 ghost use Rattle.certificate.specs.Layout.{links_of, end_at};
 ghost use Rattle.certificate.specs.Records.{end_fault};
@@ -18,7 +19,7 @@ use signal_records::signals;
 use turn_records::turns;
 
 // What a readable certificate holds how many of, where its records stand, and how long the records of modes are: in `grids` 0 for a link that there is not.
-#[derive(Drop)]
+#[derive(Clone, Copy)]
 pub struct Layout {
     pub links: usize,
     pub turns: usize,
@@ -37,7 +38,7 @@ pub struct Layout {
 }
 
 // The report of reading, and the layout: all zeros where the report is a refusal.
-#[derive(Drop)]
+#[derive(Clone, Copy)]
 pub struct Reading {
     pub report: Report,
     pub layout: Layout,

@@ -1,9 +1,9 @@
 -- The turns' order and running totals of shares, as reading carries them from one turn to the next. Assumes nothing.
-use Prim.Native.Nat.{ℕ, zero, suc, ◌+◌, ◌-◌, ◌≤◌, ◌<◌}
+use Prim.Native.Nat.{ℕ, ◌+◌, ◌-◌, ◌≤◌, ◌<◌}
 use mathlib.Core.Bool.{Bool, true, ◌&&◌}
 use mathlib.Core.List.{List}
-use mathlib.Core.Logic.{inl, inr, ⊎_elim}
-use mathlib.Core.Path.{◌≡◌, refl, sym, ap, ◌∙◌}
+use mathlib.Core.Logic.{⊎_elim}
+use mathlib.Core.Path.{◌≡◌, refl}
 use native.Mathlib.Nat.{eq-or-lt_of_le}
 use native.Mathlib.Numerals.{add-one}
 use native.Mathlib.Omega.{arith}
@@ -14,7 +14,6 @@ use Rattle.certificate.specs.declared.Report.{Report}
 use Rattle.certificate.specs.Loops.{pick, sum_to}
 use Rattle.certificate.specs.Layout.{from_of, to_of, share_of}
 use Rattle.certificate.specs.Records.{pair_below, turn_ascends, share_total, turn_ok, turn_fault}
-use Rattle.certificate.specs.Facts.{PairBelow}
 use Rattle.turn_records.specs.ShareTotals.{turn_fits, SharesBefore}
 use Rattle.certificate.proofs.Ascending.{pairs_ascend, ascends_first, ascends_after}
 use Rattle.certificate.proofs.Tests.{and_both}

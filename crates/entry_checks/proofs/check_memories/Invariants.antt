@@ -1,0 +1,17 @@
+-- `entry_checks::check_memories` meets its contract.
+use Prim.Native.Nat.{◌-◌}
+use mathlib.Core.Path.{◌≡◌, refl}
+use native.Mathlib.Omega.{arith}
+use borrow.Author.Rules.{rules}
+use borrow.Author.Tests.{not-true, not-false}
+use Rattle.certificate.specs.Checks.{first_from}
+use Rattle.certificate.specs.Records.{entry_fault}
+use Rattle.octets.proofs.Cases.{refused, go_on, stop, end}
+use Rattle.entry_checks.proofs.EntryPairs.{ordered_fine, ordered_bad, remembered_bad}
+use Rattle.entry_checks.proofs.check_memories.Given as goal
+
+abbrev pub invariant-loop-e : goal.invariant-loop-e
+invariant-loop-e l = first_from l.entries (entry_fault l.s) l.e ≡ first_from l.entries (entry_fault l.s) 0
+
+abbrev pub decreases-loop-e : goal.decreases-loop-e
+decreases-loop-e l = l.entries - l.e

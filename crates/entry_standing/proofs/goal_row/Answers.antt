@@ -1,0 +1,10 @@
+-- `entry_standing::goal_row` meets its contract.
+use borrow.Author.Rules.{rules}
+use Rattle.entry_standing.proofs.EdgeLimits.{goals_in_mode, goals_in_links}
+use Rattle.entry_standing.proofs.goal_row.Goals as goal
+
+pub returns-then-at-ne-PLAIN_MODE_SIZE : goal.returns-then-at-ne-PLAIN_MODE_SIZE
+returns-then-at-ne-PLAIN_MODE_SIZE c = goals_in_mode _ _ c.requires.0 c.if-at-ne-PLAIN_MODE_SIZE.true c.mode_of-mode.ensures.0 c.mode_at-record.ensures.0 c.mode_at-record.ensures.1
+
+pub returns : goal.returns
+returns c = goals_in_links _ _ c.requires.0 c.if-at-ne-PLAIN_MODE_SIZE.false c.size_for.ensures.0 c.size_for.ensures.2

@@ -1,0 +1,13 @@
+-- `mode_checks::goals::is_used` meets its contract.
+use Prim.Native.Nat.{◌-◌, ◌≤◌}
+use mathlib.Core.Path.{◌≡◌}
+use native.Mathlib.Omega.{arith}
+use borrow.Author.Rules.{rules}
+use Rattle.mode_checks.proofs.ModeTests.{used_to, used_none, used_more, used_all}
+use Rattle.mode_checks.proofs.goals.is_used.Given as goal
+
+abbrev pub invariant-loop-m : goal.invariant-loop-m
+invariant-loop-m l = (l.used ≡ used_to l.s l.n l.m) × (l.m ≤ l.modes)
+
+abbrev pub decreases-loop-m : goal.decreases-loop-m
+decreases-loop-m l = l.modes - l.m

@@ -1,0 +1,6 @@
+-- `screening::conditions::from_green` meets its contract.
+use borrow.Author.Rules.{rules}
+use Rattle.screening.proofs.conditions.from_green.Goals as goal
+
+pub returns : goal.returns
+returns c = cc
