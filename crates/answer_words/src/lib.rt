@@ -1,5 +1,6 @@
 // How answers and queues cross to C: an answer is one number of 64 bits, a queue four bytes.
 #![tactic(auto)]
+
 ghost use Rattle.std.specs.Prelude.{◌≡◌};
 ghost use Rattle.answer_words.specs.Words.{display_word, verdict_word, LoadFits, QueuesRead};
 

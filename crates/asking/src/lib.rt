@@ -1,5 +1,6 @@
 // Looking up a query's entry in the bytes of a certificate: the tests 18, 16, 19, in that order.
 #![tactic(auto)]
+
 ghost use Rattle.std.specs.Prelude.{◌≡◌, ◌≤◌};
 ghost use Rattle.certificate.specs.Checks.{refusal};
 ghost use Rattle.certificate.specs.Facts.{Readable};

@@ -9,6 +9,7 @@
 //   T n bytes                  listing
 //   M n more bytes             comparison: a certificate of n bytes, and one of `more` bytes behind it
 #![tactic(auto)]
+
 use std::io::{self, ErrorKind, Read};
 
 // The most bytes and queues that a call has, two certificates for a comparison, and the largest buffer that it is lent.

@@ -1,5 +1,6 @@
 // Which of two certificates of one network is better (document 02, 8/14).
 #![tactic(auto)]
+
 ghost use Rattle.std.specs.Prelude.{◌≡◌};
 ghost use Rattle.certificate.specs.Facts.{Readable};
 ghost use Rattle.reading.specs.ReadingResults.{LaidOut};

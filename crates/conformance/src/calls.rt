@@ -51,14 +51,28 @@ pub fn do_query(
 ) -> io::Result<Controller> {
     let shown = state.query(queues, scale);
     let next = shown.state;
-    print_shown(rt, b"query", shown.report, shown.signal, shown.green, next.mode)?;
+    print_shown(
+        rt,
+        b"query",
+        shown.report,
+        shown.signal,
+        shown.green,
+        next.mode,
+    )?;
     Ok(next)
 }
 
 pub fn do_poll(rt: &impl Print, state: Controller, poll: &[u8]) -> io::Result<Controller> {
     let shown = polling::poll(state, poll);
     let next = shown.state;
-    print_shown(rt, b"poll", shown.report, shown.signal, shown.green, next.mode)?;
+    print_shown(
+        rt,
+        b"poll",
+        shown.report,
+        shown.signal,
+        shown.green,
+        next.mode,
+    )?;
     Ok(next)
 }
 

@@ -1,6 +1,7 @@
 // Runs the stored cases that standard input holds, and prints a line for each case and call.
 // A case is the byte C and its calls (crate case_input); the byte E ends the stream.
 #![tactic(auto)]
+
 use case_input::Call;
 use controller::Controller;
 use std::io::{self, BufReader};
@@ -41,7 +42,11 @@ fn answer(
             Ok(state)
         }
         b'M' => {
-            calls::do_compare(rt, parts::front(bytes, n), parts::behind(bytes, n, call.more))?;
+            calls::do_compare(
+                rt,
+                parts::front(bytes, n),
+                parts::behind(bytes, n, call.more),
+            )?;
             Ok(state)
         }
         _ => {

@@ -1,5 +1,6 @@
 // The controller: a state that holds one certificate and a mode, and the calls load, query and write.
 #![tactic(auto)]
+
 ghost use Rattle.std.specs.Prelude.{◌≡◌};
 ghost use Rattle.controller.specs.Limits.{format_limits};
 ghost use Rattle.controller.specs.State.{fresh_state};

@@ -1,5 +1,6 @@
 // The tests of the records of entries (refusals 9, 22, 23 and 24). `start` is where the records of entries begin.
 #![tactic(auto)]
+
 ghost use Rattle.std.specs.Prelude.{◌≡◌, ℕ, ◌+◌, ◌<◌, ◌≤◌, eqb, length};
 ghost use Rattle.certificate.specs.Loops.{pick};
 ghost use Rattle.certificate.specs.Checks.{first_bad};

@@ -1,3 +1,4 @@
 // Entries: the fields of their records.
 #![tactic(auto)]
+
 pub mod entries;

@@ -1,4 +1,5 @@
 // The search through the successors of an entry (14, 15).
 #![tactic(auto)]
+
 mod boxes;
 pub mod search;

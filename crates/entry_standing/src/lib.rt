@@ -1,5 +1,6 @@
 // How an entry stands before its successors are looked up: its cell is safe (12), and its rank is 0 exactly at the goal of its mode (13).
 #![tactic(auto)]
+
 ghost use Rattle.std.specs.Prelude.{◌≡◌, ◌≤◌};
 ghost use Rattle.certificate.specs.Layout.{max_entries, max_links, links_of, rank_of};
 ghost use Rattle.judging.specs.EntryTests.{is_safe, is_goal, is_ranked, standing_fault};

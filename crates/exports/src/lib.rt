@@ -1,6 +1,7 @@
 // The library's calls for programs in other languages, on numbers and slices. Each is thin: it lends what it is lent to a proved call.
 // A call's answer goes to the front of `out`, on refusal too; an `out` that is too short gets 255, and nothing changes.
 #![tactic(auto)]
+
 ghost use Rattle.std.specs.Prelude.{◌≡◌, ◌≤◌, [], ◌∷◌, ◌++◌, length, drop};
 ghost use Rattle.network.specs.Conditions.{screening_of};
 ghost use Rattle.judging.specs.Verdict.{verdict_of};

@@ -1,5 +1,6 @@
 // HD, H2 or H3: the kind, how many links, turns, signals, modes, arrival boxes and entries there are, and its tests (refusal 3).
 #![tactic(auto)]
+
 ghost use Rattle.std.specs.Prelude.{◌≡◌, ◌<◌, ◌≤◌, length};
 ghost use Rattle.certificate.specs.Layout.{remembers, takes_turns, links_of, turns_of, signals_of, modes_of, boxes_of, entries_of};
 ghost use Rattle.certificate.specs.Records.{header_ok, header_marked, header_fault};

@@ -1,5 +1,6 @@
 // Calls on a state that is lent as bytes. A slice of any other length than a state's gets 18, and a refusal leaves the bytes as they were.
 #![tactic(auto)]
+
 ghost use Rattle.std.specs.Prelude.{◌≡◌, length};
 ghost use Rattle.certificate.specs.Checks.{refusal};
 ghost use Rattle.controller.specs.State.{fresh_state};

@@ -1,6 +1,7 @@
 // Lists a certificate: standard input to standard output. Bytes past the greatest length of a certificate and one more change no
 // listing (listing_text `ListingOfLong`), so no more are read.
 #![tactic(auto)]
+
 ghost use Rattle.std.specs.Prelude.{◌≡◌, ◌≤◌, length, take};
 ghost use Rattle.listing_text.specs.Listing.{listing_of};
 ghost use Rattle.listing_text.specs.Laws.{max_listing};

@@ -1,5 +1,6 @@
 // The listing of a certificate as text.
 #![tactic(auto)]
+
 ghost use Rattle.listing_text.specs.Listing.{listing_of, Sent};
 
 mod render;

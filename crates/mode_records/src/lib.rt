@@ -1,4 +1,5 @@
 // Modes: what each remembers of signals, and its goals.
 #![tactic(auto)]
+
 pub mod goals;
 pub mod modes;

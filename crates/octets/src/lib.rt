@@ -1,5 +1,6 @@
 // Bytes at an offset, and the opening of a record: mark present, mark right, record whole.
 #![tactic(auto)]
+
 ghost use Rattle.std.specs.Prelude.{◌≡◌, ◌+◌, ◌<◌, ◌≤◌, length};
 ghost use Rattle.certificate.specs.Octets.{byte_at, u16_at};
 ghost use Rattle.certificate.specs.Checks.{report_with, refusal, fine, need, or_else, marked, opened};

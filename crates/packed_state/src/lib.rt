@@ -1,5 +1,6 @@
 // The state as bytes: the stored array, the length in eight bytes (high byte first), the mode.
 #![tactic(auto)]
+
 ghost use Rattle.std.specs.Prelude.{◌≡◌, ◌++◌, ◌≤◌, ◌<◌, length, drop};
 ghost use Rattle.packed_state.specs.State.{quad_at, eight_at, octet_of, state_tail_size, state_tail, state_size, has_state_size, held_in, bytes_after};
 ghost use Rattle.octets.specs.Bounds.{entry_bound};

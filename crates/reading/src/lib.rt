@@ -1,5 +1,6 @@
 // A whole certificate: every record in its turn, and where the records stand.
 #![tactic(auto)]
+
 ghost use Rattle.std.specs.Prelude.{◌≡◌, ◌≤◌};
 ghost use Rattle.certificate.specs.Layout.{links_of, end_at};
 ghost use Rattle.certificate.specs.Records.{end_fault};

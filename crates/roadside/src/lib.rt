@@ -1,6 +1,7 @@
 // The roadside unit: the calls of a street cabinet's C program, on numbers and byte slices. Each is thin: it lends what it is lent to a proved call
 // and answers one number of 64 bits, so that a refusal changes no lent byte.
 #![tactic(auto)]
+
 ghost use Rattle.held_state.specs.Held.{Displayed};
 ghost use Rattle.roadside.specs.Calls.{FreshCall, LoadCall, QueryCall, polled_for, PollCall};
 

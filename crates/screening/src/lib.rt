@@ -1,5 +1,6 @@
 // All tests that come before 12: reading, then conditions 10 and 11.
 #![tactic(auto)]
+
 ghost use Rattle.reading.specs.ReadingResults.{ReadAs};
 ghost use Rattle.network.specs.Conditions.{screening_of};
 

@@ -1,6 +1,7 @@
 // Where each link's turns begin, and what the links that they lead into have room for. `start` is where the records of turns begin;
 // `lower` and `upper` have a queue for each link.
 #![tactic(auto)]
+
 ghost use Rattle.std.specs.Prelude.{◌≡◌, ◌+◌, ◌*◌, ◌<◌, ◌≤◌, min, max, leb, eqb, length};
 ghost use Rattle.certificate.specs.Loops.{pick, find};
 ghost use Rattle.certificate.specs.Layout.{max_turns, link_size, link_at, links_of, turns_of, turns_start, turn_at, turn_size, cap_of, from_of, to_of};

@@ -1,5 +1,6 @@
 // Words and numbers in decimal, put into a lent buffer at a place. Each function answers the place after what it wrote.
 #![tactic(auto)]
+
 ghost use Rattle.std.specs.Prelude.{◌≡◌, [], ◌∷◌, ◌++◌, cond, ◌+◌, ◌*◌, ◌<◌, ◌≤◌, length};
 ghost use Rattle.listing_text.specs.Text.{decimal};
 ghost use Rattle.text.specs.NumberLines.{numbers_line};

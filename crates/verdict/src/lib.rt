@@ -1,5 +1,6 @@
 // The verdict of any bytes: all tests before 12, then every entry in order; and how many entries may turn arrivals away.
 #![tactic(auto)]
+
 ghost use Rattle.std.specs.Prelude.{◌≡◌, ◌+◌, ◌*◌, ◌<◌, ◌≤◌, length};
 ghost use Rattle.certificate.specs.Loops.{pick};
 ghost use Rattle.certificate.specs.Layout.{max_boxes, max_modes, max_cells, entries_of, rank_of, boxes_of, cells_of};
