@@ -23,5 +23,5 @@ returns c =
     let tail = state_tail next.len next.mode in
     let size : length next.bytes ≡ max_length = search rules in
     success_passes _ next _ _ c.if-number-ne0.false
-    (put_back put.new.1.1.0 tail _ max_length state_tail_size c.put_tail.ensures
+    (put_back put.new.dst tail _ max_length state_tail_size c.put_tail.ensures
     ∙ packed max_length state_tail_size next.bytes c.args.state.now _ size c.requires put.ensures tail)
