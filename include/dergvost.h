@@ -39,8 +39,8 @@ extern "C" {
 /* A buffer of this many bytes has room for every listing, and one of DERGVOST_ARRAY for every certificate. */
 #define DERGVOST_LISTING 94293
 
-/* Stack that is enough for every call, in bytes, with room to spare: measured were 224,000 for a load, 186,000 for judge and list,
- * and 40,000 for a query or a write. */
+/* Stack that is enough for every call, in bytes, with room to spare: measured were, with an older version of the kit, 224,000 for a
+ * load, 186,000 for judge and list, and 40,000 for a query or a write. */
 #define DERGVOST_STACK (512 * 1024)
 
 /* Places of a report, of a report of judge and load, and of a query's report. */

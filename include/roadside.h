@@ -48,8 +48,8 @@ extern "C" {
 /* The most links of a certificate. */
 #define ROADSIDE_LINKS 8
 
-/* Stack that is enough for every call, in bytes, with room to spare: measured were 186,000 for a load and 40,000 for a query or a
- * poll. */
+/* Stack that is enough for every call, in bytes, with room to spare: measured were, with an older version of the kit, 186,000 for a
+ * load and 40,000 for a query or a poll. */
 #define ROADSIDE_STACK (512 * 1024)
 
 /* The number of a result. Where A, B and count name something, the line says so; they are 0 otherwise. */

@@ -20,7 +20,7 @@ loop-i-preserved c =
     let given = c.requires in
     let last = c.loop-i.invariant.1 in
     let this = c.cut_at-cut.ensures.0 in (
-      go_on _ _ _ _ _ c.loop-i-test.true (cut_good _ _ _ given.2 given.3 last this c.if-not-before-cut.false-raw) refl c.loop-i.invariant.0,
+      go_on _ _ _ _ _ c.loop-i-test.true (cut_good _ _ _ given.2 given.3 last this (search rules)) refl c.loop-i.invariant.0,
       cut_next _ _ _ given.2 given.3 last this,
     )
 

@@ -11,11 +11,8 @@ use Rattle.cell_tables.specs.Tables.{PlacesOf, QueuesFit}
 use Rattle.grid.specs.Cells.{number_of, cell_at}
 use Rattle.cell_tables.proofs.Filling.{grid_place_lem}
 use Rattle.cell_tables.proofs.Locating.{placed, placed_here, placed_choice, number_next, number_all}
+use Rattle.cell_tables.proofs.queues.cell_at.Invariants.{located}
 use Rattle.cell_tables.proofs.queues.cell_at.Goals as goal
-
--- the interval of each link that holds its queue
-abbrev located : List ℕ → ℕ → List ℕ → ℕ → ℕ
-located s D x = placed s (λ _. D) (λ l. get_or x l 0)
 
 -- the number with one link more, and that it fits
 next : (s places queues : List ℕ) (links scale cell l o n unit q r : ℕ) → Readable s → PlacesOf s places → links ≡ links_of s → QueuesFit s scale queues

@@ -8,7 +8,7 @@ use Rattle.cell_tables.proofs.Locating.{placed}
 use Rattle.cell_tables.proofs.queues.cell_at.Given as goal
 
 -- the interval of each link that holds its queue
-abbrev located : List ℕ → ℕ → List ℕ → ℕ → ℕ
+abbrev pub located : List ℕ → ℕ → List ℕ → ℕ → ℕ
 located s D x = placed s (λ _. D) (λ l. get_or x l 0)
 
 abbrev pub invariant-loop-l : goal.invariant-loop-l
