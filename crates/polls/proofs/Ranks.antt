@@ -175,7 +175,7 @@ module _ {s t : List ℕ} (R : Readable s) (D : DifferInRanks s t) (c d : Contro
 after_alike : {s t : List ℕ} → Readable s → DifferInRanks s t → (c d : Controller) (ks : List Call) → Twin s t c d → Twin s t (after_calls c ks) (after_calls d ks)
 unfolding after_calls
 after_alike R D c d [] T = T
-after_alike R D c d (k ∷ ks) T = after_alike R D _ _ ks (call_alike R D c d T k).1
+after_alike R D c d (k ∷ ks) T = after_alike R D (call_of c k).state (call_of d k).state ks (call_alike R D c d T k).1
 
 -- the states after the loads
 pub loaded_alike : (s t : List ℕ) → (verdict_of s).number ≡ 0 → (verdict_of t).number ≡ 0 → Twin s t (holding s) (holding t)
