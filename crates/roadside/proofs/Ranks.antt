@@ -133,7 +133,7 @@ module _ {s t : List ℕ} (R : Readable s) (D : DifferInRanks s t) where
       let signal = next.0.signal in
       let green = next.0.green in
       let first : r ≡ q = word k L S ∙ (cc) ∙ sym (word k N U) in
-      let others = alike_on _ _ a b last last' ks rs qs next.1 (lent_on k L S) (lent_on k N U) more rest in
+      let others = alike_on (shown_by c k).state (shown_by d k).state a b last last' ks rs qs next.1 (lent_on k L S) (lent_on k N U) more rest in
       (cc others.0, others.1)
 
 pub ranks_unseen_lent : RanksUnseenLent
