@@ -118,14 +118,14 @@ mode_lent state c L = let read : (held_in state).mode ≡ byte_at state state_mo
 
 -- two lent states that hold such certificates in one mode, through a list of calls
 module _ {s t : List ℕ} (R : Readable s) (D : DifferInRanks s t) where
-  alike_on : (ks : List CabinetCall) (c d : Controller) (state other last last' : List ℕ) (rs qs : List ℕ) → Twin s t c d → Lent state c → Lent other d
+  alike_on : (c d : Controller) (state other last last' : List ℕ) (ks : List CabinetCall) (rs qs : List ℕ) → Twin s t c d → Lent state c → Lent other d
       → AllMade ks state last rs → AllMade ks other last' qs → (rs ≡ qs) × (byte_at last state_mode_at ≡ byte_at last' state_mode_at)
-  alike_on [] c d state other last last' [] [] T L N e f = (refl, rw (e, f) (mode_lent state c L ∙ T.mode ∙ sym (mode_lent other d N)))
-  alike_on [] c d state other last last' [] (q ∷ qs) T L N e f = absurd f
-  alike_on [] c d state other last last' (r ∷ rs) qs T L N e f = absurd e
-  alike_on (k ∷ ks) c d state other last last' [] qs T L N e f = absurd e
-  alike_on (k ∷ ks) c d state other last last' (r ∷ rs) [] T L N e f = absurd f
-  alike_on (k ∷ ks) c d state other last last' (r ∷ rs) (q ∷ qs) T L N (a, (M, more)) (b, (O, rest)) =
+  alike_on c d state other last last' [] [] [] T L N e f = (refl, rw (e, f) (mode_lent state c L ∙ T.mode ∙ sym (mode_lent other d N)))
+  alike_on c d state other last last' [] [] (q ∷ qs) T L N e f = absurd f
+  alike_on c d state other last last' [] (r ∷ rs) qs T L N e f = absurd e
+  alike_on c d state other last last' (k ∷ ks) [] qs T L N e f = absurd e
+  alike_on c d state other last last' (k ∷ ks) (r ∷ rs) [] T L N e f = absurd f
+  alike_on c d state other last last' (k ∷ ks) (r ∷ rs) (q ∷ qs) T L N (a, (M, more)) (b, (O, rest)) =
       let S : ShownCall (shown_to state k) state a r = rw (made_is k state a r) at M in
       let U : ShownCall (shown_to other k) other b q = rw (made_is k other b q) at O in
       let next = call_alike R D c d T (by_value k) in
@@ -133,7 +133,7 @@ module _ {s t : List ℕ} (R : Readable s) (D : DifferInRanks s t) where
       let signal = next.0.signal in
       let green = next.0.green in
       let first : r ≡ q = word k L S ∙ (cc) ∙ sym (word k N U) in
-      let others = alike_on ks _ _ a b last last' rs qs next.1 (lent_on k L S) (lent_on k N U) more rest in
+      let others = alike_on (shown_by c k).state (shown_by d k).state a b last last' ks rs qs next.1 (lent_on k L S) (lent_on k N U) more rest in
       (cc others.0, others.1)
 
 pub ranks_unseen_lent : RanksUnseenLent
@@ -141,4 +141,4 @@ ranks_unseen_lent s t state state' other other' v w C E z z' D ks last last' rs 
     let one = load_lent C z in
     let two = load_lent E z' in
     let R = ((accepted_is_plain s).0 one.0).0.readable in
-    alike_on R D ks _ _ _ _ last last' rs qs (loaded_alike s t one.0 two.0) one.1 two.1 A B
+    alike_on R D _ _ _ _ last last' ks rs qs (loaded_alike s t one.0 two.0) one.1 two.1 A B

@@ -1,14 +1,11 @@
 -- `entry_search::search::look` meets its contract.
+use mathlib.Core.Path.{ap}
 use mathlib.Core.Bool.{Bool, true, false, not, false≢true}
 use mathlib.Core.Path.{◌≡◌, refl, sym, ◌∙◌}
 use borrow.Author.Tests.{not-true}
 use Rattle.judging.specs.EntryTests.{follows}
 use borrow.Author.Rules.{rules}
 use Rattle.entry_search.proofs.search.look.Goals as goal
-
-not_left : (b : Bool) → not b ≡ false → b ≡ true
-not_left true e = refl
-not_left false e = absurd (false≢true (sym e))
 
 pub returns-then-not-in_ranges : goal.returns-then-not-in_ranges
 returns-then-not-in_ranges c =
@@ -19,5 +16,5 @@ returns-then-not-in_ranges c =
 pub returns : goal.returns
 returns c =
     let p = c.requires in
-    let f : follows _ _ _ _ ≡ true = p.5.same _ ∙ sym c.in_ranges.ensures ∙ not_left _ c.if-not-in_ranges.false-raw in
+    let f : follows _ _ _ _ ≡ true = p.5.same _ ∙ sym c.in_ranges.ensures ∙ c.if-not-in_ranges.false in
     (c.successor_number-number.ensures ∙ rw f, rw f)

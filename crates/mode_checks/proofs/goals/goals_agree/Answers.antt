@@ -1,3 +1,5 @@
+use mathlib.Core.Path.{ap}
+use mathlib.Core.Bool.{not}
 use Prim.Native.Nat.{◌-◌}
 use mathlib.Core.Path.{◌≡◌, refl}
 use borrow.Author.Rules.{rules}
@@ -10,10 +12,10 @@ unfolding agree_from goals_agree
 loop-k-init c = refl
 
 pub returns-then-not-agrees_with : goal.returns-then-not-agrees_with
-returns-then-not-agrees_with c = agree_stop _ _ _ c.agrees_with.ensures c.loop-k-test.true c.if-not-agrees_with.true-raw c.loop-k.invariant
+returns-then-not-agrees_with c = agree_stop _ _ _ c.agrees_with.ensures c.loop-k-test.true (ap not c.if-not-agrees_with.true) c.loop-k.invariant
 
 pub loop-k-preserved : goal.loop-k-preserved
-loop-k-preserved c = agree_on _ _ _ c.agrees_with.ensures c.loop-k-test.true c.if-not-agrees_with.false-raw c.loop-k.invariant
+loop-k-preserved c = agree_on _ _ _ c.agrees_with.ensures c.loop-k-test.true (ap not c.if-not-agrees_with.false) c.loop-k.invariant
 
 pub returns : goal.returns
 returns c = agree_end _ _ _ c.loop-k-test.false c.loop-k.invariant

@@ -1,3 +1,5 @@
+use mathlib.Core.Path.{ap}
+use mathlib.Core.Bool.{not}
 use Prim.Native.Nat.{◌-◌}
 use mathlib.Core.Path.{◌≡◌, refl}
 use borrow.Author.Rules.{rules}
@@ -11,11 +13,11 @@ loop-n-init c = refl
 
 pub returns-then-not-is_used : goal.returns-then-not-is_used
 returns-then-not-is_used c =
-    used_stop _ _ c.greatest_of-greatest.ensures.0 c.is_used.ensures c.loop-n-test.true c.if-not-is_used.true-raw c.loop-n.invariant
+    used_stop _ _ c.greatest_of-greatest.ensures.0 c.is_used.ensures c.loop-n-test.true (ap not c.if-not-is_used.true) c.loop-n.invariant
 
 pub loop-n-preserved : goal.loop-n-preserved
 loop-n-preserved c =
-    used_on _ _ c.greatest_of-greatest.ensures.0 c.is_used.ensures c.loop-n-test.true c.if-not-is_used.false-raw c.loop-n.invariant
+    used_on _ _ c.greatest_of-greatest.ensures.0 c.is_used.ensures c.loop-n-test.true (ap not c.if-not-is_used.false) c.loop-n.invariant
 
 pub returns : goal.returns
 returns c = used_end _ _ c.greatest_of-greatest.ensures.0 c.loop-n-test.false c.loop-n.invariant

@@ -5,19 +5,19 @@ use Rattle.certificate.specs.Checks.{first_from}
 use Rattle.certificate.specs.Layout.{modes_of}
 use Rattle.certificate.specs.Records.{mode_fault}
 use Rattle.certificate.specs.Reading.{modes_fault}
-use Rattle.octets.proofs.Cases.{not_yes, not_no, go_on, stop, end}
+use Rattle.octets.proofs.Cases.{go_on, stop, end, by_no, by_yes}
 use Rattle.mode_checks.proofs.ModeTests.{no_records, all_records}
 use Rattle.mode_checks.proofs.modes.check_modes.Goals as goal
 
 pub returns-then-not-has_memory : goal.returns-then-not-has_memory
-returns-then-not-has_memory c = no_records _ (not_yes _ _ c.has_memory.ensures c.if-not-has_memory.true-raw) c.accept.ensures
+returns-then-not-has_memory c = no_records _ (by_no _ _ c.has_memory.ensures c.if-not-has_memory.true) c.accept.ensures
 
 pub loop-m-init : goal.loop-m-init
-loop-m-init c = all_records _ (not_no _ _ c.has_memory.ensures c.if-not-has_memory.false-raw) c.modes_of-modes.ensures.0
+loop-m-init c = all_records _ (by_yes _ _ c.has_memory.ensures c.if-not-has_memory.false) c.modes_of-modes.ensures.0
 
 pub check_mode-f-requires : goal.check_mode-f-requires
 check_mode-f-requires c =
-    (search rules, c.place_of-place.ensures, not_no _ _ c.has_memory.ensures c.if-not-has_memory.false-raw)
+    (search rules, c.place_of-place.ensures, by_yes _ _ c.has_memory.ensures c.if-not-has_memory.false)
 
 pub returns-then-f-ne0 : goal.returns-then-f-ne0
 returns-then-f-ne0 c = search stop
