@@ -12,8 +12,8 @@
 
 use std::io::{self, ErrorKind, Read};
 
-// The most bytes and queues that a call has, two certificates for a comparison, and the largest buffer that it is lent.
-pub const MOST_BYTES: usize = 81920;
+// The most bytes and queues that a call has, and the largest buffer that it is lent.
+pub const MOST_BYTES: usize = 40960;
 
 pub const MOST_QUEUES: usize = 64;
 
