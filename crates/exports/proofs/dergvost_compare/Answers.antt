@@ -1,6 +1,5 @@
 -- `exports::dergvost_compare` meets its contract: the numbers are those of the comparison, where the slice has room.
 use native.Mathlib.Omega.{arith}
-use borrow.Author.Rules.{rules}
 use Rattle.exports.proofs.Answering.{no_room, answered}
 use Rattle.exports.proofs.dergvost_compare.Goals as goal
 

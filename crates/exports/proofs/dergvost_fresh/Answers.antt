@@ -1,7 +1,6 @@
 -- `exports::dergvost_fresh` meets its contract: the number, and the bytes afterwards.
 use mathlib.Core.Path.{ap}
 use Rattle.certificate.specs.declared.Report.{Report}
-use borrow.Author.Rules.{rules}
 use Rattle.exports.proofs.dergvost_fresh.Goals as goal
 
 pub returns : goal.returns

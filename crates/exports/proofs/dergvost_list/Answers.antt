@@ -1,6 +1,5 @@
 -- `exports::dergvost_list` meets its contract: the listing's report and its buffer, where the report's slice has room.
 use native.Mathlib.Omega.{arith}
-use borrow.Author.Rules.{rules}
 use Rattle.exports.proofs.Answering.{nothing_done, all_done}
 use Rattle.exports.proofs.dergvost_list.Goals as goal
 

@@ -3,7 +3,6 @@ use mathlib.Core.Path.{sym, ap, ◌∙◌}
 use native.Mathlib.Omega.{arith}
 use Rattle.certificate.specs.declared.Report.{Report}
 use Rattle.exports.proofs.Answering.{nothing_done, all_done}
-use borrow.Author.Rules.{rules}
 use Rattle.exports.proofs.dergvost_load.Goals as goal
 
 pub returns-then-out-lt5 : goal.returns-then-out-lt5

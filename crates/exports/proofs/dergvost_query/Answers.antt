@@ -1,7 +1,6 @@
 -- `exports::dergvost_query` meets its contract: 255, or what the query shows and the state's bytes afterwards.
 use native.Mathlib.Omega.{arith}
 use Rattle.exports.proofs.Answering.{nothing_done, all_done}
-use borrow.Author.Rules.{rules}
 use Rattle.exports.proofs.dergvost_query.Goals as goal
 
 pub returns-then-out-lt6 : goal.returns-then-out-lt6

@@ -1,5 +1,4 @@
 -- `exports::dergvost_screen` meets its contract: the report is what the screening answers, where the slice has room.
-use borrow.Author.Rules.{rules}
 use native.Mathlib.Omega.{arith}
 use Rattle.exports.proofs.Answering.{no_room, answered}
 use Rattle.exports.proofs.dergvost_screen.Goals as goal

@@ -6,7 +6,6 @@ use Rattle.packed_state.specs.State.{state_size}
 use Rattle.packed_state.proofs.Packing.{is_state, is_none}
 use Rattle.exports.proofs.Answering.{nothing_done, all_done}
 use Rattle.held_state.proofs.Lengths.{other_lengths}
-use borrow.Author.Rules.{rules}
 use Rattle.exports.proofs.dergvost_write.Goals as goal
 
 pub returns-then-out-lt4 : goal.returns-then-out-lt4

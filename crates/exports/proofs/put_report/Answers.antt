@@ -1,5 +1,4 @@
 -- `exports::put_report` meets its contract: four stores at the front of a slice that has room.
-use borrow.Author.Rules.{rules}
 use mathlib.Core.Path.{refl}
 use native.Mathlib.Omega.{arith}
 use lib.ListN.{length-set}

@@ -1,6 +1,5 @@
 -- `exports::put_shown` meets its contract: two stores behind a report, in a slice that has room.
 use Rattle.exports.proofs.Front.{six}
-use borrow.Author.Rules.{rules}
 use Rattle.exports.proofs.put_shown.Goals as goal
 
 pub returns : goal.returns

@@ -1,6 +1,5 @@
 -- `exports::put_verdict` meets its contract: one store behind a report, in a slice that has room.
 use Rattle.exports.proofs.Front.{five}
-use borrow.Author.Rules.{rules}
 use Rattle.exports.proofs.put_verdict.Goals as goal
 
 pub returns : goal.returns

@@ -1,6 +1,5 @@
 -- `roadside::poll_held` meets its contract: 18, or what the poll shows and the next state's bytes.
 use mathlib.Core.Path.{◌≡◌}
-use borrow.Author.Rules.{rules}
 use lib.ListN.{length}
 use Rattle.packed_state.specs.State.{state_size}
 use Rattle.packed_state.proofs.Packing.{is_state, is_none}

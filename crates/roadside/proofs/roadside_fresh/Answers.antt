@@ -1,6 +1,5 @@
 -- `roadside::roadside_fresh` meets its contract: the number, and the bytes afterwards.
 use mathlib.Core.Path.{ap}
-use borrow.Author.Rules.{rules}
 use Rattle.certificate.specs.declared.Report.{Report}
 use Rattle.roadside.proofs.roadside_fresh.Goals as goal
 

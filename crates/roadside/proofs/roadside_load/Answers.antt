@@ -1,6 +1,5 @@
 -- `roadside::roadside_load` meets its contract: the load's answer as one number, the state's bytes afterwards, and the run claim.
 use mathlib.Core.Path.{◌∙◌}
-use borrow.Author.Rules.{rules}
 use Rattle.roadside.proofs.Words.{load_fits}
 use Rattle.roadside.proofs.roadside_load.Goals as goal
 

@@ -1,6 +1,5 @@
 -- `roadside::roadside_poll` meets its contract: what is shown as one number, and the state's bytes afterwards.
 use mathlib.Core.Path.{◌∙◌, ap}
-use borrow.Author.Rules.{rules}
 use Rattle.answer_words.specs.Words.{display_word}
 use Rattle.roadside.proofs.roadside_poll.Goals as goal
 
