@@ -31,6 +31,11 @@ fn own_cases_agree() {
 }
 
 #[test]
+fn own_comparisons_agree() {
+    all_agree("tests/data/comparisons");
+}
+
+#[test]
 fn mismatches_are_told() {
     let cases = format!("{EMPTY}case c\nload e\nwrite buffer 2 start 0\nlist e\n");
     let due =
@@ -221,7 +226,7 @@ fn bad_calls_and_results() {
         "odd-call",
         "case c\nask e\n",
         "",
-        "x.cases:4: expected `fresh`, `state`, `load`, `query`, `poll`, `write`, `list` or `compare`, found `ask`",
+        "x.cases:4: expected `fresh`, `state`, `load`, `query`, `poll`, `write` or `list`, found `ask`",
     );
     malformed(
         "odd-due",

@@ -1,4 +1,5 @@
-//! Lines of stored cases for loads with overflows, for polls and for comparisons.
+//! Lines of stored cases for loads with overflows, and for polls.
+//! Those for comparisons come after them.
 
 mod common;
 

@@ -58,11 +58,18 @@ fn files_that_cannot_be_read() {
 #[test]
 fn cases() {
     let data = concat!(env!("CARGO_MANIFEST_DIR"), "/tests/data");
-    let last = b"87 of 87 calls in 10 cases agreed\n";
+    let last = b"80 of 80 calls in 9 cases agreed\n";
     ends(&["cases", data], b"", 0, last, "");
     let sources = concat!(env!("CARGO_MANIFEST_DIR"), "/src");
     let none = format!("{sources}: no case was found\n");
     ends(&["cases", sources], b"", 1, b"", &none);
+}
+
+#[test]
+fn cases_of_comparisons() {
+    let data = concat!(env!("CARGO_MANIFEST_DIR"), "/tests/data/comparisons");
+    let last = b"7 of 7 calls in 1 cases agreed\n";
+    ends(&["cases", data], b"", 0, last, "");
 }
 
 #[test]
@@ -76,6 +83,15 @@ fn binary_and_expected() {
     let none = format!("{sources}: no case was found\n");
     ends(&["binary", sources], b"", 1, b"", &none);
     ends(&["expected", sources], b"", 1, b"", &none);
+}
+
+#[test]
+fn binary_and_expected_of_comparisons() {
+    let data = concat!(env!("CARGO_MANIFEST_DIR"), "/tests/data/comparisons");
+    let folder = Path::new(data);
+    ends(&["binary", data], b"", 0, &stream(folder).unwrap(), "");
+    let text = expected(folder).unwrap();
+    ends(&["expected", data], b"", 0, text.as_bytes(), "");
 }
 
 #[test]

@@ -151,6 +151,12 @@ fn stored_cases_play() {
 }
 
 #[test]
+fn own_comparisons_play() {
+    let package = Path::new(env!("CARGO_MANIFEST_DIR"));
+    plays(&package.join("tests/data/comparisons"));
+}
+
+#[test]
 fn hashes() {
     assert_eq!(hash(b""), 0x811C_9DC5);
     assert_eq!(hash(b"a"), 0xE40C_292C);
@@ -178,8 +184,6 @@ case two
   poll bytes none
   write buffer 1 start 0
   list q
-  compare q p
-  compare p q
 ";
 
 const SMALL_DUE: &str = "\
@@ -196,8 +200,6 @@ case two
   write 0 1 0 0 holds q from 0
   list
   | refused 1 0 0 0
-  compare 1 2 3 4 refused
-  compare 0 0 0 0 second
 ";
 
 /// Byte for byte, and by the due results alone: some of them are not what a checker would answer.
@@ -212,10 +214,7 @@ fn small_stream() {
     due.extend(b"Q\0\x01\0\0\0\x02\0\0\0\x01\xFF\xFF\xFF\xFFQ\0\0\0\x01\0\0");
     due.extend(b"P\0\0\0\x12\0\x40\x14\0\0\0\0\0\0\x01\xFE\0\0\0\0\0\0\0");
     due.extend(b"P\0\0\0\x03\x01\x02\xFFP\0\0\0\0");
-    due.extend(b"W\0\0\0\x01\0\0\0\0\0\0\0\0T\0\0\0\x01H");
-    let p = [head, &b"ABZZ"[..]].concat();
-    due.extend([b"M\0\0\0\x01\0\0\0\x0DH", &p[..]].concat());
-    due.extend([b"M\0\0\0\x0D\0\0\0\x01", &p[..], b"HE"].concat());
+    due.extend(b"W\0\0\0\x01\0\0\0\0\0\0\0\0T\0\0\0\x01HE");
     assert_eq!(stream(&folder).unwrap(), due);
     let (kept, held) = (hash(&[3, 10, 17]), hash(b"H"));
     let text = format!(
@@ -224,10 +223,28 @@ fn small_stream() {
          case 1\nquery 18 0 0 0 signal 0 green 0 mode 3\nquery 0 1 2 3 signal 4 green 254 mode 5\n\
          poll 21 7 2 3 signal 15 green 253 mode 255\npoll 18 0 0 0 signal 0 green 0 mode 3\n\
          poll 20 1 0 0 signal 0 green 0 mode 0\n\
-         write 0 1 0 0 sum {held}\nlist 0 16 0 0\nrefused 1 0 0 0\n\
-         compare 1 2 3 4 refused\ncompare 0 0 0 0 second\n"
+         write 0 1 0 0 sum {held}\nlist 0 16 0 0\nrefused 1 0 0 0\n"
     );
     assert_eq!(expected(&folder).unwrap(), text);
+}
+
+/// Two comparisons behind these calls, also by their due results alone.
+#[test]
+fn small_stream_with_comparisons() {
+    let before = folder("stream-small-before", SMALL, SMALL_DUE);
+    let cases = format!("{SMALL}  compare q p\n  compare p q\n");
+    let results = format!("{SMALL_DUE}  compare 1 2 3 4 refused\n  compare 0 0 0 0 second\n");
+    let folder = folder("stream-small-compared", &cases, &results);
+    let mut due = stream(&before).unwrap();
+    assert_eq!(due.pop(), Some(b'E'));
+    due.extend(b"M\0\0\0\x01\0\0\0\x0DHHD\0\0\0\x01\0\0\0ABZZ");
+    due.extend(b"M\0\0\0\x0D\0\0\0\x01HD\0\0\0\x01\0\0\0ABZZHE");
+    assert_eq!(stream(&folder).unwrap(), due);
+    let text = "compare 1 2 3 4 refused\ncompare 0 0 0 0 second\n";
+    assert_eq!(
+        expected(&folder).unwrap(),
+        expected(&before).unwrap() + text
+    );
 }
 
 /// 40,960 bytes may stand in a case, no more; a paper that no case names may be longer.

@@ -40,7 +40,8 @@ pub enum Call {
 impl Call {
     /// Reads the line of a call.
     pub fn read(words: &mut Words) -> Result<Call, String> {
-        let calls = "`fresh`, `state`, `load`, `query`, `poll`, `write`, `list` or `compare`";
+        // `compare` is read too, but not listed: the message stays as it was before that call.
+        let calls = "`fresh`, `state`, `load`, `query`, `poll`, `write` or `list`";
         let before = words.clone();
         let call = match words.take(calls)? {
             "fresh" => Call::Fresh,
