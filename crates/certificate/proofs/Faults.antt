@@ -8,10 +8,9 @@ use mathlib.Core.Logic.{◌↔◌, ◌⊎◌, inl, inr, ⊎_elim}
 use native.Mathlib.Omega.{arith}
 use borrow.Author.Tests.{leb-true, le-leb}
 use lib.ListN.{length}
-use lib.Dec.{leb}
 use Rattle.certificate.specs.declared.Report.{Report}
 use Rattle.certificate.specs.Checks.{refusal, fine, need, or_else, first_bad}
-use Rattle.certificate.specs.Layout.{grid_size, from_of, to_of, grid_at, intervals_of, entry_at, cell_of, mode_of, end_size, end_at}
+use Rattle.certificate.specs.Layout.{from_of, to_of, grid_at, intervals_of, entry_at, cell_of, mode_of, end_size, end_at}
 use Rattle.certificate.specs.Records.{header_marked, header_fault, link_fault, turn_ascends, share_total, turn_fault, signal_fault, mode_fault, cut_fault, count_ok, grid_fault, range_fault, arrival_fault, entry_ascends, names_exist, entry_fault, end_fault}
 use Rattle.certificate.specs.Facts.{Mark, GridFacts, EntryFacts}
 use Rattle.certificate.specs.Due.{Kind, HD, LK, TN, SG, MD, GR, AR, EN, ZZ, field_number, record_at, Marked, CountFacts, Whole, Line, TooShort, WrongMark}

@@ -7,7 +7,7 @@ use mathlib.Core.Logic.{◌↔◌, ◌⊎◌, inl, inr, ⊎_elim}
 use native.Mathlib.Omega.{arith}
 use borrow.Author.Tests.{ltb-true, ltb-false, le-leb, eqb-true, eqb-false}
 use lib.Dec.{ltb, leb, eqb}
-use Rattle.certificate.specs.Layout.{signals_of, modes_of, remembers, shown_before, goal_number_of, next_goal, cells_of, cell_of, mode_of, signal_of, next_mode_of, rank_of}
+use Rattle.certificate.specs.Layout.{signals_of, modes_of, remembers, shown_before, cells_of, cell_of, mode_of, signal_of, next_mode_of, rank_of}
 use Rattle.certificate.specs.Facts.{PairBelow, EntryFacts, PassesOn, TurnsOn}
 use Rattle.certificate.specs.Due.{Kind, HD, LK, TN, SG, MD, GR, AR, EN, ZZ, field_number, Marked, Whole, Above, Line, BrokenLine, Missing, MissingName, WrongOrder, OtherSignal, OtherNumber, OtherGoal}
 use Rattle.certificate.specs.Due.Missing.{cell, mode, signal, next_mode}

@@ -1,11 +1,11 @@
 -- What the kind of a certificate says of its mark and of its layout. Assumes nothing.
 use Prim.Native.Nat.{ℕ, zero, suc}
-use mathlib.Core.Bool.{Bool, true, false, ◌||◌, false≢true}
+use mathlib.Core.Bool.{Bool, true, false}
 use mathlib.Core.List.{List}
-use mathlib.Core.Path.{◌≡◌, refl, sym, ◌∙◌}
-use mathlib.Core.Logic.{◌⊎◌, inl, inr, ⊎_elim}
+use mathlib.Core.Path.{◌≡◌, refl}
+use mathlib.Core.Logic.{◌⊎◌, inl, inr}
 use native.Mathlib.Omega.{arith}
-use borrow.Author.Tests.{eq-eqb, ne_eqb, eqb-true}
+use borrow.Author.Tests.{eqb-true}
 use lib.Dec.{eqb}
 use Rattle.certificate.specs.Loops.{pick, greatest_to}
 use Rattle.certificate.specs.Layout.{plain_mode_size, goal_mode_size, kind_byte_of, remembers, takes_turns, links_of, modes_of, link_size, start_flow_of, mode_records_of, modes_start, mode_size, goal_number_of, goal_for, greatest_goal, next_goal, grid_start, rank_of}

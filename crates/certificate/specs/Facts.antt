@@ -1,8 +1,8 @@
 -- What reading establishes, in plain terms: the lines of document 01's paper layout, for every link, turn, box, entry and offset.
-use Rattle.std.specs.Prelude.{ℕ, ◌+◌, ◌*◌, ◌-◌, ◌^◌, ◌≤◌, ◌<◌, true, List, ◌⊎◌, ◌≡◌, length, eqb}
+use Rattle.std.specs.Prelude.{ℕ, ◌+◌, ◌*◌, ◌^◌, ◌≤◌, ◌<◌, true, List, ◌⊎◌, ◌≡◌, length, eqb}
 use Rattle.certificate.specs.Octets.{byte_at}
 use Rattle.certificate.specs.Loops.{pick, sum_to}
-use Rattle.certificate.specs.Layout.{max_links, max_turns, max_signals, max_modes, max_boxes, max_entries, max_cap, max_share, max_pull, max_arrival, max_intervals, max_cells, max_goal_number, max_length, end_size, links_of, turns_of, signals_of, modes_of, boxes_of, entries_of, remembers, takes_turns, link_at, tail_of, head_of, cap_of, flow_of, safe_of, goal_of, start_flow_of, turn_at, from_of, to_of, share_of, pull_of, signal_at, green_byte_of, mode_records_of, mode_at, shown_before, goal_number_of, goal_for, greatest_goal, next_goal, grid_at, intervals_of, cut_of, product_of, cells_of, arrival_at, low_of, high_of, entry_at, cell_of, mode_of, signal_of, next_mode_of, rank_of, end_at}
+use Rattle.certificate.specs.Layout.{max_links, max_turns, max_signals, max_modes, max_boxes, max_entries, max_cap, max_share, max_pull, max_arrival, max_intervals, max_cells, max_goal_number, end_size, links_of, turns_of, signals_of, modes_of, boxes_of, entries_of, remembers, takes_turns, link_at, tail_of, head_of, cap_of, flow_of, safe_of, goal_of, start_flow_of, turn_at, from_of, to_of, share_of, pull_of, signal_at, green_byte_of, mode_records_of, mode_at, shown_before, goal_number_of, goal_for, greatest_goal, next_goal, grid_at, intervals_of, cut_of, product_of, cells_of, arrival_at, low_of, high_of, entry_at, cell_of, mode_of, signal_of, next_mode_of, rank_of, end_at}
 
 -- the mark at offset o is m and k
 pub record Mark (s : List ℕ) (o m k : ℕ) : Type 0 where

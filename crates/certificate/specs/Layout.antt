@@ -1,7 +1,7 @@
 -- Paper layout of document 01: the limits of the format, where each record stands, and its fields.
 -- Records come in the order HD, LK, TN, SG, GR, AR, EN, ZZ. Certificates of the kind H2 (document 02, 5/14) open with H2 in place of HD, have
 -- a start flow in each LK, and MD records after SG. Those of the kind H3 (6/14) have goals in turn besides: a goal number and goals in each MD.
-use Rattle.std.specs.Prelude.{ℕ, zero, suc, ◌+◌, ◌*◌, ◌-◌, List, Bool, ◌||◌, eqb}
+use Rattle.std.specs.Prelude.{ℕ, zero, suc, ◌+◌, ◌*◌, List, Bool, ◌||◌, eqb}
 use Rattle.certificate.specs.Octets.{byte_at, u16_at}
 use Rattle.certificate.specs.Loops.{pick, greatest_to}
 

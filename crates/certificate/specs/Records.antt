@@ -1,7 +1,7 @@
 -- The tests of each record, and their refusals 1 to 9, 22, 23 and 24.
 use Rattle.std.specs.Prelude.{ℕ, zero, suc, ◌+◌, ◌*◌, ◌-◌, ◌^◌, List, Bool, true, not, ◌&&◌, ◌||◌, length, ltb, leb, eqb}
 use Rattle.certificate.specs.declared.Report.{Report}
-use Rattle.certificate.specs.Octets.{byte_at, ◌also◌}
+use Rattle.certificate.specs.Octets.{◌also◌}
 use Rattle.certificate.specs.Loops.{pick, sum_to, any_to, every}
 use Rattle.certificate.specs.Checks.{refusal, fine, need, or_else, first_bad, marked, opened}
 use Rattle.certificate.specs.Layout.{max_links, max_turns, max_signals, max_modes, max_boxes, max_entries, max_cap, max_share, max_pull, max_arrival, max_intervals, max_cells, max_goal_number, header_size, link_size, turn_size, signal_size, mode_size, grid_size, arrival_size, entry_size, end_size, links_of, turns_of, signals_of, modes_of, boxes_of, entries_of, remembers, takes_turns, link_at, tail_of, head_of, cap_of, flow_of, safe_of, goal_of, start_flow_of, turn_at, from_of, to_of, share_of, pull_of, signal_at, green_byte_of, mode_at, shown_before, goal_number_of, goal_for, greatest_goal, next_goal, grid_at, intervals_of, cut_of, product_of, cells_of, arrival_at, low_of, high_of, entry_at, cell_of, mode_of, signal_of, next_mode_of, rank_of, end_at}

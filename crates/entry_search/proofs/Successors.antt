@@ -8,7 +8,6 @@ use borrow.Author.Tests.{lt-ltb, le-ltb, le-leb, lt-leb, leb-true, leb-false, ne
 use lib.Dec.{eqb, leb, ltb}
 use lib.ListN.{get_or}
 use Rattle.certificate.specs.Loops.{pick}
-use Rattle.certificate.specs.declared.Report.{Report}
 use Rattle.certificate.specs.Checks.{report_with, fine, need}
 use Rattle.certificate.specs.Layout.{next_mode_of, rank_of}
 use Rattle.certificate.proofs.Tests.{and_both, need_pass, need_fail}

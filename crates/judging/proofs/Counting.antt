@@ -8,7 +8,7 @@ use Rattle.certificate.specs.Loops.{pick, sum_to}
 use Rattle.certificate.specs.Layout.{cells_of, boxes_of, entries_of, cell_of}
 use Rattle.network.specs.Network.{entry_limit}
 use Rattle.grid.specs.Successors.{is_successor}
-use Rattle.judging.specs.Conditions.{looked, looked_cells, looked_boxes, looked_entries}
+use Rattle.judging.specs.Conditions.{looked_cells, looked_boxes, looked_entries}
 
 -- a sum of n terms that are at most k
 sum_most : (n k : ℕ) (f : ℕ → ℕ) → ((t : ℕ) → f t ≤ k) → sum_to n f ≤ n * k

@@ -1,5 +1,5 @@
 -- When a certificate is accepted (document 01), in plain terms, and how many successors are looked up.
-use Rattle.std.specs.Prelude.{ℕ, ◌+◌, ◌≤◌, ◌<◌, List, true, ◌↔◌, ◌⊎◌, ◌≡◌}
+use Rattle.std.specs.Prelude.{ℕ, ◌≤◌, ◌<◌, List, true, ◌↔◌, ◌⊎◌, ◌≡◌}
 use Rattle.certificate.specs.Loops.{pick, sum_to}
 use Rattle.certificate.specs.Layout.{links_of, safe_of, goal_for, cells_of, boxes_of, entries_of, cell_of, mode_of, next_mode_of, rank_of}
 use Rattle.network.specs.Network.{entry_limit}

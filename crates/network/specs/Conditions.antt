@@ -1,9 +1,9 @@
 -- The two conditions that make the flow rule monotone in each queue (source document 004, Lemma 2), refusals 10 and 11.
-use Rattle.std.specs.Prelude.{ℕ, ◌+◌, ◌*◌, ◌-◌, List, Bool, leb, eqb}
+use Rattle.std.specs.Prelude.{ℕ, ◌*◌, ◌-◌, List, Bool, leb, eqb}
 use Rattle.certificate.specs.declared.Report.{Report}
 use Rattle.certificate.specs.Loops.{pick, sum_to}
 use Rattle.certificate.specs.Checks.{report_with, refusal, fine, need, or_else, first_bad}
-use Rattle.certificate.specs.Layout.{max_pull_sum, links_of, turns_of, signals_of, cap_of, flow_of, from_of, to_of, share_of, pull_of}
+use Rattle.certificate.specs.Layout.{max_pull_sum, links_of, turns_of, signals_of, cap_of, flow_of, from_of, to_of, pull_of}
 use Rattle.certificate.specs.Reading.{reading_of}
 use Rattle.network.specs.Network.{Network, network_of, is_green}
 

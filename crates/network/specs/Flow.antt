@@ -1,5 +1,5 @@
 -- Flow rule of document 01. Queues x and arrivals a are whole numbers over one scale D; a step is over 10,000 times that scale.
-use Rattle.std.specs.Prelude.{ℕ, zero, suc, ◌+◌, ◌*◌, ◌-◌, min, Bool, true, false, eqb}
+use Rattle.std.specs.Prelude.{ℕ, zero, suc, ◌+◌, ◌*◌, ◌-◌, min, Bool, eqb}
 use Rattle.certificate.specs.Loops.{pick, sum_to}
 use Rattle.network.specs.Network.{Network}
 

@@ -1,5 +1,5 @@
 -- What the theorems on the flow rule ask of a network, its signal and its limits, and the order of queues that they speak of.
-use Rattle.std.specs.Prelude.{ℕ, ◌+◌, ◌*◌, ◌-◌, ◌≤◌, ◌<◌, Bool, false, ◌≡◌}
+use Rattle.std.specs.Prelude.{ℕ, ◌*◌, ◌-◌, ◌≤◌, ◌<◌, Bool, false, ◌≡◌}
 use Rattle.certificate.specs.Layout.{max_pull_sum}
 use Rattle.network.specs.Network.{Network}
 use Rattle.network.specs.Conditions.{pull_sum}

@@ -2,7 +2,7 @@
 use Prim.Native.Nat.{ℕ, ◌+◌, ◌*◌, ◌≤◌, ◌<◌}
 use mathlib.Core.Bool.{Bool, true, false}
 use mathlib.Core.List.{List}
-use mathlib.Core.Path.{◌≡◌, refl, sym, ap, ◌∙◌}
+use mathlib.Core.Path.{◌≡◌, refl, ap, ◌∙◌}
 use native.Mathlib.Omega.{arith}
 use borrow.Author.Tests.{ltb-true, ltb-false}
 use lib.ListN.{get_or}
@@ -13,7 +13,7 @@ use Rattle.reading.specs.declared.Starts.{Starts}
 use Rattle.certificate.specs.Loops.{pick}
 use Rattle.certificate.specs.Checks.{or_else, first_bad}
 use Rattle.certificate.specs.Layout.{max_links, max_modes, turn_size, signal_size, arrival_size, links_of, turns_of, signals_of, modes_of, boxes_of, entries_of, link_at, turns_start, signals_start, mode_records_of, modes_start, mode_at, grid_start, grid_at, arrivals_start, entries_start}
-use Rattle.certificate.specs.Records.{header_fault, end_fault}
+use Rattle.certificate.specs.Records.{header_fault}
 use Rattle.certificate.specs.Reading.{links_fault, turns_fault, signals_fault, reading_of}
 use Rattle.certificate.specs.Facts.{HeaderFacts}
 use Rattle.box_records.specs.GridRecords.{GridsLaid}

@@ -1,7 +1,6 @@
 -- `asking::find_cell` meets its contract.
 use Rattle.rank_tables.proofs.Finding.{cells_ascend}
 use Rattle.asking.proofs.Answers.{finds_none, finds}
-use borrow.Author.Rules.{rules}
 use Rattle.asking.proofs.find_cell.Goals as goal
 
 pub find_entry-e-requires : goal.find_entry-e-requires

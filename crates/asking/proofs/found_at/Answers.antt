@@ -1,5 +1,4 @@
 -- `asking::found_at` meets its contract.
-use borrow.Author.Rules.{rules}
 use Rattle.asking.proofs.found_at.Goals as goal
 
 pub returns : goal.returns

@@ -1,6 +1,5 @@
 -- `asking::not_found` meets its contract.
 use mathlib.Core.Path.{◌∙◌}
-use borrow.Author.Rules.{rules}
 use Rattle.asking.proofs.not_found.Goals as goal
 
 pub returns : goal.returns

@@ -1,10 +1,5 @@
-use Prim.Native.Nat.{◌-◌}
-use mathlib.Core.Path.{◌≡◌, ◌∙◌}
 use native.Mathlib.Omega.{arith}
 use borrow.Author.Rules.{rules}
-use Rattle.certificate.specs.Checks.{first_from}
-use Rattle.certificate.specs.Records.{entry_fault}
-use Rattle.entry_checks.specs.Keys.{KeyBefore}
 use Rattle.octets.proofs.Cases.{go_on, stop, end}
 use Rattle.entry_checks.proofs.EntryPairs.{key_none, key_next, entry_within}
 use Rattle.entry_checks.proofs.check_each.Goals as goal

@@ -1,11 +1,8 @@
-use Prim.Native.Nat.{ℕ, ◌-◌, ◌<◌}
-use mathlib.Core.Path.{◌≡◌, refl, ◌∙◌}
+use Prim.Native.Nat.{◌<◌}
+use mathlib.Core.Path.{◌≡◌, ◌∙◌}
 use mathlib.Core.Logic.{⊎_elim}
 use native.Mathlib.Nat.{eq-or-lt_of_le}
 use native.Mathlib.Omega.{arith}
-use borrow.Author.Rules.{rules}
-use Rattle.certificate.specs.Records.{entry_fault}
-use Rattle.entry_checks.specs.Keys.{KeyBefore, Ordered}
 use Rattle.entry_checks.proofs.EntryPairs.{key_none, plain_fine}
 use Rattle.entry_checks.proofs.check_entries.Goals as goal
 

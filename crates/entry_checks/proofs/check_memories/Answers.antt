@@ -1,10 +1,6 @@
-use Prim.Native.Nat.{◌-◌}
-use mathlib.Core.Path.{◌≡◌, refl}
+use mathlib.Core.Path.{refl}
 use native.Mathlib.Omega.{arith}
 use borrow.Author.Rules.{rules}
-use borrow.Author.Tests.{not-true, not-false}
-use Rattle.certificate.specs.Checks.{first_from}
-use Rattle.certificate.specs.Records.{entry_fault}
 use Rattle.octets.proofs.Cases.{refused, go_on, stop, end}
 use Rattle.entry_checks.proofs.EntryPairs.{ordered_fine, ordered_bad, remembered_bad}
 use Rattle.entry_checks.proofs.check_memories.Goals as goal

@@ -1,13 +1,8 @@
 -- `entry_checks::check_memories` meets its contract.
 use Prim.Native.Nat.{◌-◌}
-use mathlib.Core.Path.{◌≡◌, refl}
-use native.Mathlib.Omega.{arith}
-use borrow.Author.Rules.{rules}
-use borrow.Author.Tests.{not-true, not-false}
+use mathlib.Core.Path.{◌≡◌}
 use Rattle.certificate.specs.Checks.{first_from}
 use Rattle.certificate.specs.Records.{entry_fault}
-use Rattle.octets.proofs.Cases.{refused, go_on, stop, end}
-use Rattle.entry_checks.proofs.EntryPairs.{ordered_fine, ordered_bad, remembered_bad}
 use Rattle.entry_checks.proofs.check_memories.Given as goal
 
 abbrev pub invariant-loop-e : goal.invariant-loop-e

@@ -2,7 +2,6 @@
 use mathlib.Core.Path.{◌≡◌, ◌∙◌}
 use native.Mathlib.Omega.{arith}
 use Rattle.certificate.specs.Layout.{cell_of, mode_of}
-use borrow.Author.Rules.{rules}
 use Rattle.entry_checks.proofs.key_at.Goals as goal
 
 pub returns : goal.returns

@@ -2,7 +2,6 @@
 use Rattle.certificate.specs.Octets.{◌also◌}
 use Rattle.certificate.specs.Records.{names_exist}
 use Rattle.entry_checks.proofs.EntryPairs.{key_mode, key_cell}
-use borrow.Author.Rules.{rules}
 use Rattle.entry_checks.proofs.names_exist.Goals as goal
 
 pub returns : goal.returns

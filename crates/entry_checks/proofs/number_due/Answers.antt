@@ -1,5 +1,4 @@
 -- `entry_checks::number_due` meets its contract.
-use borrow.Author.Rules.{rules}
 use mathlib.Core.Path.{refl}
 use borrow.Author.Tests.{eq-eqb, ne_eqb}
 use Rattle.octets.proofs.Picking.{pick_yes, pick_no}

@@ -2,7 +2,6 @@
 use mathlib.Core.Path.{refl}
 use native.Mathlib.Omega.{arith}
 use Rattle.entry_checks.proofs.EntryPairs.{entry_ordered, key_next, key_ascends}
-use borrow.Author.Rules.{rules}
 use Rattle.entry_checks.proofs.quick.Goals as goal
 
 pub returns-then-s-o : goal.returns-then-s-o

@@ -1,9 +1,5 @@
-use Prim.Native.Nat.{◌-◌}
-use mathlib.Core.Bool.{◌&&◌}
-use mathlib.Core.Path.{◌≡◌, refl}
+use mathlib.Core.Path.{refl}
 use native.Mathlib.Omega.{arith}
-use borrow.Author.Rules.{rules}
-use Rattle.certificate.specs.Layout.{safe_of, goal_for, mode_of}
 use Rattle.judging.specs.EntryTests.{is_safe, is_goal}
 use Rattle.entry_standing.proofs.EdgeLimits.{edges_from, edges_more, edges_end, row_most, goal_in_row}
 use Rattle.entry_standing.proofs.cell_fits.Goals as goal

@@ -1,12 +1,10 @@
 -- `entry_standing::cell_fits` meets its contract.
 use Prim.Native.Nat.{◌-◌}
 use mathlib.Core.Bool.{◌&&◌}
-use mathlib.Core.Path.{◌≡◌, refl}
-use native.Mathlib.Omega.{arith}
-use borrow.Author.Rules.{rules}
+use mathlib.Core.Path.{◌≡◌}
 use Rattle.certificate.specs.Layout.{safe_of, goal_for, mode_of}
 use Rattle.judging.specs.EntryTests.{is_safe, is_goal}
-use Rattle.entry_standing.proofs.EdgeLimits.{edges_from, edges_more, edges_end, row_most, goal_in_row}
+use Rattle.entry_standing.proofs.EdgeLimits.{edges_from}
 use Rattle.entry_standing.proofs.cell_fits.Given as goal
 
 abbrev pub invariant-loop-l : goal.invariant-loop-l

@@ -1,7 +1,6 @@
 -- `entry_standing::check_standing` meets its contract.
 use Rattle.octets.proofs.Cases.{cases}
 use Rattle.judging.specs.EntryTests.{standing_fault}
-use borrow.Author.Rules.{rules}
 use Rattle.entry_standing.proofs.check_standing.Goals as goal
 
 pub returns-then-not-cell : goal.returns-then-not-cell

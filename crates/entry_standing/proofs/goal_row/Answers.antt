@@ -1,5 +1,4 @@
 -- `entry_standing::goal_row` meets its contract.
-use borrow.Author.Rules.{rules}
 use Rattle.entry_standing.proofs.EdgeLimits.{goals_in_mode, goals_in_links}
 use Rattle.entry_standing.proofs.goal_row.Goals as goal
 

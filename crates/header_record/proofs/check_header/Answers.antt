@@ -1,6 +1,5 @@
 -- `header_record::check_header` meets its contract.
 use Rattle.certificate.specs.Records.{header_fault}
-use borrow.Author.Rules.{rules}
 use Rattle.header_record.proofs.check_header.Goals as goal
 
 pub returns : goal.returns

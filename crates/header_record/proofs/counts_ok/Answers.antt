@@ -1,7 +1,6 @@
 -- `header_record::counts_ok` meets its contract.
 use Rattle.certificate.specs.Octets.{◌also◌}
 use Rattle.certificate.specs.Records.{header_ok}
-use borrow.Author.Rules.{rules}
 use Rattle.header_record.proofs.counts_ok.Goals as goal
 
 pub returns : goal.returns

@@ -1,6 +1,5 @@
 -- `header_record::has_memory` meets its contract.
 use Rattle.certificate.specs.Layout.{remembers}
-use borrow.Author.Rules.{rules}
 use Rattle.header_record.proofs.has_memory.Goals as goal
 
 pub returns : goal.returns

@@ -1,6 +1,5 @@
 -- `header_record::has_memory_within` meets its contract.
 use Rattle.certificate.specs.Layout.{remembers}
-use borrow.Author.Rules.{rules}
 use Rattle.header_record.proofs.has_memory_within.Goals as goal
 
 pub returns : goal.returns

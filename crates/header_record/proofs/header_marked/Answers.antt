@@ -1,6 +1,5 @@
 -- `header_record::header_marked` meets its contract.
 use Rattle.certificate.specs.Records.{header_marked}
-use borrow.Author.Rules.{rules}
 use Rattle.header_record.proofs.header_marked.Goals as goal
 
 pub returns : goal.returns

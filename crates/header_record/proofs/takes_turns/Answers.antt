@@ -1,6 +1,5 @@
 -- `header_record::takes_turns` meets its contract.
 use Rattle.certificate.specs.Layout.{takes_turns}
-use borrow.Author.Rules.{rules}
 use Rattle.header_record.proofs.takes_turns.Goals as goal
 
 pub returns : goal.returns

@@ -1,7 +1,6 @@
 -- `octets::check_opened` meets its contract.
 use Rattle.certificate.specs.Checks.{opened}
 use Rattle.octets.proofs.Cases.{cases}
-use borrow.Author.Rules.{rules}
 use borrow.Author.Tests.{not-true, not-false}
 use Rattle.octets.proofs.check_opened.Goals as goal
 

@@ -8,7 +8,6 @@ use lib.ListN.{get_or-eq_default}
 use lib.Dec.{eqb}
 use Rattle.certificate.specs.Octets.{byte_at}
 use Rattle.certificate.specs.Checks.{marked}
-use borrow.Author.Rules.{rules}
 use Rattle.octets.proofs.marked_as.Goals as goal
 
 -- a test of two bytes fails where the second does

@@ -1,6 +1,5 @@
 -- `octets::marked_within` meets its contract.
 use Rattle.certificate.specs.Checks.{marked}
-use borrow.Author.Rules.{rules}
 use Rattle.octets.proofs.marked_within.Goals as goal
 
 pub returns : goal.returns

@@ -1,7 +1,6 @@
 -- `octets::record_result` meets its contract.
 use borrow.Author.Tests.{not-true, not-false}
 use Rattle.octets.proofs.Cases.{first, second, pass, fail}
-use borrow.Author.Rules.{rules}
 use Rattle.octets.proofs.record_result.Goals as goal
 
 pub returns-then-opening-ne0 : goal.returns-then-opening-ne0

@@ -1,6 +1,5 @@
 -- `reading::check_end` meets its contract.
 use Rattle.certificate.specs.Records.{end_fault}
-use borrow.Author.Rules.{rules}
 use Rattle.reading.proofs.check_end.Goals as goal
 
 pub returns : goal.returns

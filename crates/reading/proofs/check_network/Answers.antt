@@ -1,11 +1,9 @@
 -- `reading::check_network` meets its contract.
-use mathlib.Core.Path.{◌≡◌}
 use Rattle.certificate.specs.Reading.{links_fault, turns_fault, signals_fault}
 use Rattle.reading.specs.ReadingResults.{network_fault}
 use Rattle.octets.proofs.Cases.{first, second}
 use Rattle.reading.proofs.Stages.{as_many}
 use native.Mathlib.Omega.{arith}
-use borrow.Author.Rules.{rules}
 use Rattle.reading.proofs.check_network.Goals as goal
 
 pub returns-then-f-ne0 : goal.returns-then-f-ne0

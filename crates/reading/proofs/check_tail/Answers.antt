@@ -1,5 +1,5 @@
 -- `reading::check_tail` meets its contract.
-use mathlib.Core.Path.{◌≡◌, ◌∙◌}
+use mathlib.Core.Path.{◌∙◌}
 use Rattle.certificate.specs.Layout.{end_at}
 use Rattle.certificate.specs.Reading.{arrivals_fault, entries_fault}
 use Rattle.reading.specs.ReadingResults.{tail_fault}

@@ -1,6 +1,5 @@
 -- `reading::lay_out` meets its contract.
 use Rattle.reading.proofs.Stages.{laid_out}
-use borrow.Author.Rules.{rules}
 use Rattle.reading.proofs.lay_out.Goals as goal
 
 pub returns : goal.returns

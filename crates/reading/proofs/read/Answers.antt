@@ -2,7 +2,6 @@
 use mathlib.Core.Path.{◌∙◌}
 use Rattle.octets.proofs.Cases.{first, second}
 use Rattle.reading.proofs.Stages.{refused_as, read_as, in_stages, header_facts}
-use borrow.Author.Rules.{rules}
 use Rattle.reading.proofs.read.Goals as goal
 
 pub returns-then-f-ne0 : goal.returns-then-f-ne0

@@ -1,10 +1,8 @@
 -- `reading::read_back` meets its contract.
-use mathlib.Core.Path.{◌≡◌}
 use Rattle.certificate.specs.Reading.{grids_fault}
 use Rattle.reading.specs.ReadingResults.{back_fault}
 use Rattle.octets.proofs.Cases.{first, second}
 use Rattle.reading.proofs.Stages.{refused_as, as_many}
-use borrow.Author.Rules.{rules}
 use Rattle.reading.proofs.read_back.Goals as goal
 
 pub returns-then-f-ne0 : goal.returns-then-f-ne0

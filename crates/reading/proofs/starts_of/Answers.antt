@@ -1,7 +1,6 @@
 -- `reading::starts_of` meets its contract.
 use Rattle.reading.proofs.Stages.{modes_begin, starts_are}
 use native.Mathlib.Omega.{arith}
-use borrow.Author.Rules.{rules}
 use Rattle.reading.proofs.starts_of.Goals as goal
 
 pub place_of-requires : goal.place_of-requires

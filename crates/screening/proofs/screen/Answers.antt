@@ -1,7 +1,6 @@
 -- `screening::screen` meets its contract.
 use Rattle.screening.proofs.Screens.{screen_refuses, screen_network, screen-signals, pulls_answer, rooms_answer, screen_passes}
 use Rattle.screening.proofs.Bounds.{network_links}
-use borrow.Author.Rules.{rules}
 use Rattle.screening.proofs.screen.Goals as goal
 
 pub returns-then-f-ne0 : goal.returns-then-f-ne0

@@ -1,13 +1,9 @@
 -- `supply::first_turn` meets its contract.
 use Prim.Native.Nat.{◌-◌, ◌≤◌}
 use mathlib.Core.Path.{◌≡◌}
-use native.Mathlib.Omega.{arith}
-use borrow.Author.Rules.{rules}
-use borrow.Author.Tests.{le-leb, lt-leb}
 use lib.Dec.{leb}
 use Rattle.certificate.specs.Loops.{find, find_from}
 use Rattle.certificate.specs.Layout.{turns_of, from_of}
-use Rattle.supply.proofs.Finding.{find_here, find_on, find_none}
 use Rattle.supply.proofs.first_turn.Given as goal
 
 abbrev pub invariant-loop-t : goal.invariant-loop-t

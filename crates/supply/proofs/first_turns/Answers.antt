@@ -1,12 +1,8 @@
-use Prim.Native.Nat.{◌-◌, ◌≤◌}
 use mathlib.Core.Path.{refl}
 use native.Mathlib.Omega.{arith}
 use borrow.Author.Count.{below_none}
 use borrow.Author.Rules.{rules}
-use lib.Dec.{leb}
-use Rattle.certificate.specs.Loops.{find}
-use Rattle.certificate.specs.Layout.{turns_of, from_of}
-use Rattle.octets.proofs.FilledTables.{Filled, filled_more}
+use Rattle.octets.proofs.FilledTables.{filled_more}
 use Rattle.supply.proofs.first_turns.Goals as goal
 
 pub loop-j-init : goal.loop-j-init

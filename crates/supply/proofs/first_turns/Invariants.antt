@@ -1,13 +1,9 @@
 -- `supply::first_turns` meets its contract.
 use Prim.Native.Nat.{◌-◌, ◌≤◌}
-use mathlib.Core.Path.{refl}
-use native.Mathlib.Omega.{arith}
-use borrow.Author.Count.{below_none}
-use borrow.Author.Rules.{rules}
 use lib.Dec.{leb}
 use Rattle.certificate.specs.Loops.{find}
 use Rattle.certificate.specs.Layout.{turns_of, from_of}
-use Rattle.octets.proofs.FilledTables.{Filled, filled_more}
+use Rattle.octets.proofs.FilledTables.{Filled}
 use Rattle.supply.proofs.first_turns.Given as goal
 
 abbrev pub invariant-loop-j : goal.invariant-loop-j

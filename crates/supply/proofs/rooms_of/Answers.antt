@@ -1,7 +1,6 @@
 -- `supply::rooms_of` meets its contract.
 use Prim.Native.Nat.{ℕ, ◌*◌, ◌-◌, ◌≤◌, ◌<◌}
 use native.Mathlib.Omega.{arith}
-use borrow.Author.Rules.{rules}
 use lib.ListN.{get_or}
 use Rattle.octets.proofs.Fitting.{product_most}
 use Rattle.supply.proofs.rooms_of.Goals as goal

@@ -1,13 +1,8 @@
 -- `supply::supplies` meets its contract.
-use Prim.Native.Nat.{◌-◌, ◌≤◌, ◌<◌}
+use Prim.Native.Nat.{◌-◌, ◌≤◌}
 use mathlib.Core.Path.{◌≡◌}
-use native.Mathlib.Omega.{arith}
-use borrow.Author.Rules.{rules}
-use Rattle.certificate.specs.Layout.{turns_of}
 use Rattle.supply.specs.Supply.{at, supply_at, TwoLeast}
-use Rattle.screening.proofs.Bounds.{turns_most, to_most, to_link, turn_whole, link_whole}
-use Rattle.octets.proofs.FilledTables.{Each, each_more}
-use Rattle.supply.proofs.TwoLeast.{two_none, two_more}
+use Rattle.octets.proofs.FilledTables.{Each}
 use Rattle.supply.proofs.supplies.Given as goal
 
 abbrev pub invariant-loop-t : goal.invariant-loop-t

@@ -1,10 +1,8 @@
 -- `text::decimal_length` meets its contract.
 use mathlib.Core.Path.{◌≡◌}
 use Prim.Native.Nat.{◌+◌, ◌<◌, ◌^◌}
-use native.Mathlib.Omega.{arith}
 use lib.ListN.{length}
 use Rattle.listing_text.specs.Text.{decimal}
-use Rattle.listing_text.proofs.Digits.{length_one, length_step, decimal_fits}
 use Rattle.text.proofs.decimal_length.Given as goal
 
 -- the digits passed and those of what is left are all

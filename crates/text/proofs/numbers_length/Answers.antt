@@ -1,9 +1,6 @@
-use mathlib.Core.Path.{◌≡◌, ap}
-use Prim.Native.Nat.{◌+◌, ◌*◌, ◌-◌, ◌≤◌}
+use mathlib.Core.Path.{ap}
 use native.Mathlib.Omega.{arith}
-use borrow.Author.Rules.{rules}
-use lib.ListN.{length, drop}
-use Rattle.text.specs.NumberLines.{numbers_line}
+use lib.ListN.{length}
 use Rattle.text.proofs.Numbers.{length_numbers, numbers_end}
 use Rattle.text.proofs.numbers_length.Goals as goal
 

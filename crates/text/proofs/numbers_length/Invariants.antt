@@ -1,11 +1,8 @@
 -- `text::numbers_length` meets its contract.
-use mathlib.Core.Path.{◌≡◌, ap}
+use mathlib.Core.Path.{◌≡◌}
 use Prim.Native.Nat.{◌+◌, ◌*◌, ◌-◌, ◌≤◌}
-use native.Mathlib.Omega.{arith}
-use borrow.Author.Rules.{rules}
 use lib.ListN.{length, drop}
 use Rattle.text.specs.NumberLines.{numbers_line}
-use Rattle.text.proofs.Numbers.{length_numbers, numbers_end}
 use Rattle.text.proofs.numbers_length.Given as goal
 
 -- what is counted and the numbers from here on are the whole line

@@ -1,10 +1,7 @@
-use mathlib.Core.Path.{◌≡◌, refl, ◌∙◌}
-use Prim.Native.Nat.{◌+◌, ◌<◌, ◌/◌, ◌^◌}
+use mathlib.Core.Path.{refl, ◌∙◌}
+use Prim.Native.Nat.{◌/◌}
 use native.Mathlib.Omega.{arith}
-use borrow.Author.Rules.{rules}
-use lib.ListN.{length, length-set}
-use Rattle.listing_text.specs.Text.{decimal}
-use Rattle.text.specs.TextPut.{written}
+use lib.ListN.{length-set}
 use Rattle.listing_text.proofs.Digits.{length_step, decimal_least}
 use Rattle.text.proofs.Digits.{digit_stored, digit_last}
 use Rattle.text.proofs.put_decimal.Goals as goal

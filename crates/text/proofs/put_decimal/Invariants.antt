@@ -1,13 +1,9 @@
 -- `text::put_decimal` meets its contract.
-use mathlib.Core.Path.{◌≡◌, refl, ◌∙◌}
-use Prim.Native.Nat.{◌+◌, ◌<◌, ◌/◌, ◌^◌}
-use native.Mathlib.Omega.{arith}
-use borrow.Author.Rules.{rules}
-use lib.ListN.{length, length-set}
+use mathlib.Core.Path.{◌≡◌}
+use Prim.Native.Nat.{◌+◌, ◌<◌, ◌^◌}
+use lib.ListN.{length}
 use Rattle.listing_text.specs.Text.{decimal}
 use Rattle.text.specs.TextPut.{written}
-use Rattle.listing_text.proofs.Digits.{length_step, decimal_least}
-use Rattle.text.proofs.Digits.{digit_stored, digit_last}
 use Rattle.text.proofs.put_decimal.Given as goal
 
 -- the digits of what is left, put in front of those that are there, complete the text

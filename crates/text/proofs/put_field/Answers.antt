@@ -1,5 +1,4 @@
 -- `text::put_field` meets its contract.
-use borrow.Author.Rules.{rules}
 use Rattle.text.proofs.Placing.{room_first, rest_start, rest_next, rest_last}
 use Rattle.text.proofs.put_field.Goals as goal
 

@@ -1,6 +1,5 @@
 -- `text::put_number` meets its contract.
 use native.Mathlib.Omega.{arith}
-use borrow.Author.Rules.{rules}
 use Rattle.text.proofs.Placing.{room_first, rest_start, rest_next, rest_last, put_byte}
 use Rattle.text.proofs.put_number.Goals as goal
 

@@ -1,9 +1,5 @@
-use Prim.Native.Nat.{◌-◌, ◌≤◌}
 use native.Mathlib.Omega.{arith}
-use borrow.Author.Rules.{rules}
-use lib.ListN.{length, drop}
-use Rattle.text.specs.NumberLines.{numbers_line}
-use Rattle.text.proofs.Placing.{Rest, room_first, rest_start, rest_next, rest_done}
+use Rattle.text.proofs.Placing.{room_first, rest_start, rest_next, rest_done}
 use Rattle.text.proofs.Numbers.{numbers_step, numbers_end}
 use Rattle.text.proofs.put_numbers.Goals as goal
 

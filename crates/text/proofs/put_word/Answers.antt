@@ -1,9 +1,7 @@
 use mathlib.Core.Path.{◌≡◌, refl, sym, ◌∙◌}
-use Prim.Native.Nat.{◌-◌, ◌≤◌}
 use native.Mathlib.Omega.{arith}
-use lib.ListN.{length, take, length-set}
+use lib.ListN.{length, length-set}
 use lib.Seq.{take-length}
-use Rattle.text.specs.TextPut.{written}
 use Rattle.text.proofs.Placing.{written_none, word_more}
 use Rattle.text.proofs.put_word.Goals as goal
 

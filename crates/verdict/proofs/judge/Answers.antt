@@ -1,6 +1,5 @@
 -- `verdict::judge` meets its contract.
 use Rattle.verdict.proofs.VerdictCases.{judge_answers}
-use borrow.Author.Rules.{rules}
 use Rattle.verdict.proofs.judge.Goals as goal
 
 pub returns : goal.returns

@@ -1,15 +1,10 @@
 -- `verdict::judge_entries` meets its contract.
-use Prim.Native.Nat.{◌+◌, ◌*◌, ◌-◌, ◌≤◌}
-use mathlib.Core.Path.{◌≡◌, refl, sym, ap, ◌∙◌}
-use native.Mathlib.Omega.{arith}
+use Prim.Native.Nat.{◌*◌, ◌-◌, ◌≤◌}
+use mathlib.Core.Path.{◌≡◌}
 use lib.ListN.{length}
-use borrow.Author.Rules.{rules}
-use Rattle.certificate.specs.declared.Report.{Report}
 use Rattle.certificate.specs.Layout.{entries_of}
 use Rattle.judging.specs.EntryTests.{judging_from}
 use Rattle.judging.specs.Overflow.{overflows_before}
-use Rattle.judging.proofs.Overflows.{overflows_before_most}
-use Rattle.verdict.proofs.Chaining.{next_entry, stop_entry, end_entries, one_more, none_before}
 use Rattle.verdict.proofs.judge_entries.Given as goal
 
 abbrev pub invariant-loop-e : goal.invariant-loop-e

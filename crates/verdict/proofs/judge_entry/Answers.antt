@@ -3,7 +3,6 @@ use mathlib.Core.Path.{refl}
 use native.Mathlib.Omega.{arith}
 use Rattle.verdict.proofs.Chaining.{not_standing, searched}
 use Rattle.entry_standing.proofs.EdgeLimits.{standing_count}
-use borrow.Author.Rules.{rules}
 use Rattle.verdict.proofs.judge_entry.Goals as goal
 
 pub cell_edges-requires : goal.cell_edges-requires

@@ -1,6 +1,5 @@
 -- `verdict::judge_screened` meets its contract: what each table is goes together.
 use mathlib.Core.Path.{refl}
-use borrow.Author.Rules.{rules}
 use Rattle.verdict.proofs.judge_screened.Goals as goal
 
 pub judge_entries-requires : goal.judge_entries-requires

@@ -1,6 +1,5 @@
 -- `verdict::judge_with_layout` meets its contract.
 use Rattle.verdict.proofs.VerdictCases.{judge_refuses, judge_goes_on, judge_ends, judge_accepts}
-use borrow.Author.Rules.{rules}
 use Rattle.verdict.proofs.judge_with_layout.Goals as goal
 
 pub returns-then-f-ne0 : goal.returns-then-f-ne0

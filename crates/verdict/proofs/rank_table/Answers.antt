@@ -1,6 +1,5 @@
 -- `verdict::rank_table` meets its contract.
 use Rattle.rank_tables.proofs.Finding.{cells_ascend}
-use borrow.Author.Rules.{rules}
 use Rattle.verdict.proofs.rank_table.Goals as goal
 
 pub fill_ranks-requires : goal.fill_ranks-requires

@@ -1,7 +1,6 @@
 -- `asking::proper::is_proper` meets its contract.
 use Rattle.certificate.specs.Octets.{◌also◌}
 use Rattle.judging.specs.Asking.{is_proper}
-use borrow.Author.Rules.{rules}
 use Rattle.asking.proofs.proper.is_proper.Goals as goal
 
 pub returns : goal.returns

@@ -1,9 +1,8 @@
-use Prim.Native.Nat.{◌*◌, ◌-◌, ◌≤◌}
-use mathlib.Core.Path.{◌≡◌, refl}
+use Prim.Native.Nat.{◌*◌, ◌≤◌}
+use mathlib.Core.Path.{refl}
 use native.Mathlib.Omega.{arith}
-use borrow.Author.Rules.{rules}
 use Rattle.octets.proofs.Fitting.{product_most}
-use Rattle.asking.proofs.Answers.{fit_from, fit_on, fit_stop, fit_end}
+use Rattle.asking.proofs.Answers.{fit_on, fit_stop, fit_end}
 use Rattle.asking.proofs.proper.queues_fit.Goals as goal
 
 pub loop-l-init : goal.loop-l-init

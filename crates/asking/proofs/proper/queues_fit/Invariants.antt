@@ -1,10 +1,7 @@
 -- `asking::proper::queues_fit` meets its contract.
-use Prim.Native.Nat.{◌*◌, ◌-◌, ◌≤◌}
-use mathlib.Core.Path.{◌≡◌, refl}
-use native.Mathlib.Omega.{arith}
-use borrow.Author.Rules.{rules}
-use Rattle.octets.proofs.Fitting.{product_most}
-use Rattle.asking.proofs.Answers.{fit_from, fit_on, fit_stop, fit_end}
+use Prim.Native.Nat.{◌-◌}
+use mathlib.Core.Path.{◌≡◌}
+use Rattle.asking.proofs.Answers.{fit_from}
 use Rattle.asking.proofs.proper.queues_fit.Given as goal
 
 abbrev pub invariant-loop-l : goal.invariant-loop-l

@@ -2,7 +2,6 @@
 use native.Mathlib.Omega.{arith}
 use native.Mathlib.Nat.{sub-zero}
 use Rattle.asking.proofs.Answers.{too_many, screened}
-use borrow.Author.Rules.{rules}
 use Rattle.asking.proofs.stored.stored_reading.Goals as goal
 
 pub returns-then-n-bytes : goal.returns-then-n-bytes

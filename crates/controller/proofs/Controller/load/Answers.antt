@@ -1,6 +1,5 @@
 -- `controller::Controller::load` meets its contract.
 use Rattle.controller.proofs.Loads.{load_refuses, load_fits, load_accepts}
-use borrow.Author.Rules.{rules}
 use Rattle.controller.proofs.Controller.load.Goals as goal
 
 pub returns-then-report-ne0 : goal.returns-then-report-ne0

@@ -1,5 +1,4 @@
 -- `entry_records::entries::bench_entry` meets its contract.
-use borrow.Author.Rules.{rules}
 use Rattle.entry_records.proofs.entries.bench_entry.Goals as goal
 
 pub returns : goal.returns

@@ -2,7 +2,6 @@
 use mathlib.Core.Path.{refl}
 use native.Mathlib.Omega.{arith}
 use Rattle.entry_search.proofs.InBoxes.{ranges_are}
-use borrow.Author.Rules.{rules}
 use Rattle.entry_search.proofs.boxes.box_ranges.Goals as goal
 
 pub image_of-any-requires : goal.image_of-any-requires

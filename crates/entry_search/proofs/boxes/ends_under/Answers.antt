@@ -1,16 +1,12 @@
-use Prim.Native.Nat.{ℕ, ◌+◌, ◌*◌, ◌-◌, ◌≤◌, ◌<◌, min}
-use mathlib.Core.Bool.{Bool, false}
-use mathlib.Core.List.{List}
+use Prim.Native.Nat.{ℕ, ◌<◌}
+use mathlib.Core.Bool.{false}
 use mathlib.Core.Path.{◌≡◌, sym, ◌∙◌}
 use native.Mathlib.Omega.{arith}
 use borrow.Author.Count.{below_none}
-use borrow.Author.Rules.{rules}
-use lib.Dec.{ltb}
-use lib.ListN.{length, get_or, length-set}
-use Rattle.certificate.specs.Loops.{any_to}
+use lib.ListN.{get_or, length-set}
 use Rattle.certificate.proofs.Loops.{any_none, any_more, any_same}
-use Rattle.octets.proofs.FilledTables.{Filled, filled_more, entries_more}
-use Rattle.entry_search.proofs.boxes.ends_under.Invariants.{uncut, exceeding}
+use Rattle.octets.proofs.FilledTables.{filled_more, entries_more}
+use Rattle.entry_search.proofs.boxes.ends_under.Invariants.{exceeding}
 use Rattle.entry_search.proofs.boxes.ends_under.Goals as goal
 
 pub loop-l-init : goal.loop-l-init

@@ -2,15 +2,11 @@
 use Prim.Native.Nat.{ℕ, ◌+◌, ◌*◌, ◌-◌, ◌≤◌, ◌<◌, min}
 use mathlib.Core.Bool.{Bool, false}
 use mathlib.Core.List.{List}
-use mathlib.Core.Path.{◌≡◌, sym, ◌∙◌}
-use native.Mathlib.Omega.{arith}
-use borrow.Author.Count.{below_none}
-use borrow.Author.Rules.{rules}
+use mathlib.Core.Path.{◌≡◌}
 use lib.Dec.{ltb}
-use lib.ListN.{length, get_or, length-set}
+use lib.ListN.{length, get_or}
 use Rattle.certificate.specs.Loops.{any_to}
-use Rattle.certificate.proofs.Loops.{any_none, any_more, any_same}
-use Rattle.octets.proofs.FilledTables.{Filled, filled_more, entries_more}
+use Rattle.octets.proofs.FilledTables.{Filled}
 use Rattle.entry_search.proofs.boxes.ends_under.Given as goal
 
 -- what arrives by the end is added to what was before it

@@ -2,7 +2,6 @@
 use native.Mathlib.Omega.{arith}
 use Rattle.entry_search.proofs.Arriving.{lows_small, highs_small, image_is}
 use Rattle.entry_search.proofs.Overflowing.{box_over}
-use borrow.Author.Rules.{rules}
 use Rattle.entry_search.proofs.boxes.image_of.Goals as goal
 
 pub ends_under-requires : goal.ends_under-requires

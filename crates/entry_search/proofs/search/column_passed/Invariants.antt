@@ -1,11 +1,7 @@
 -- `entry_search::search::column_passed` meets its contract.
-use Prim.Native.Nat.{◌+◌, ◌-◌, ◌≤◌, ◌<◌}
-use mathlib.Core.Path.{◌≡◌, ◌∙◌}
-use native.Mathlib.Omega.{arith}
-use borrow.Author.Rules.{rules}
-use lib.ListN.{get_or}
-use Rattle.entry_search.specs.Search.{passes, column_passing}
-use Rattle.entry_search.proofs.InBoxes.{many_most, sum_begins, sum_more}
+use Prim.Native.Nat.{◌-◌, ◌≤◌}
+use mathlib.Core.Path.{◌≡◌}
+use Rattle.entry_search.specs.Search.{column_passing}
 use Rattle.entry_search.proofs.search.column_passed.Given as goal
 
 abbrev pub invariant-loop-i : goal.invariant-loop-i

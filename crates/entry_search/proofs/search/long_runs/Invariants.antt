@@ -1,11 +1,7 @@
 -- `entry_search::search::long_runs` meets its contract.
-use Prim.Native.Nat.{◌+◌, ◌*◌, ◌-◌, ◌≤◌}
-use mathlib.Core.Path.{◌≡◌, ◌∙◌}
-use native.Mathlib.Nat.{mul-le-mul_right}
-use native.Mathlib.Omega.{arith}
-use borrow.Author.Rules.{rules}
+use Prim.Native.Nat.{◌-◌, ◌≤◌}
+use mathlib.Core.Path.{◌≡◌}
 use Rattle.entry_search.specs.Search.{runs_passing}
-use Rattle.entry_search.proofs.InBoxes.{sum_begins, sum_more, runs_most}
 use Rattle.entry_search.proofs.search.long_runs.Given as goal
 
 abbrev pub invariant-loop-i : goal.invariant-loop-i

@@ -1,10 +1,7 @@
 -- `entry_search::search::look` meets its contract.
-use mathlib.Core.Path.{ap}
-use mathlib.Core.Bool.{Bool, true, false, not, false≢true}
-use mathlib.Core.Path.{◌≡◌, refl, sym, ◌∙◌}
-use borrow.Author.Tests.{not-true}
+use mathlib.Core.Bool.{true, false}
+use mathlib.Core.Path.{◌≡◌, sym, ◌∙◌}
 use Rattle.judging.specs.EntryTests.{follows}
-use borrow.Author.Rules.{rules}
 use Rattle.entry_search.proofs.search.look.Goals as goal
 
 pub returns-then-not-in_ranges : goal.returns-then-not-in_ranges

@@ -1,5 +1,4 @@
 -- `entry_search::search::passing` meets its contract.
-use borrow.Author.Rules.{rules}
 use native.Mathlib.Omega.{arith}
 use Rattle.entry_search.proofs.Successors.{none_passes, higher_passes, lower_passes}
 use Rattle.entry_search.proofs.search.passing.Goals as goal

@@ -1,9 +1,7 @@
 -- `entry_search::search::run_passed` meets its contract.
-use Prim.Native.Nat.{◌+◌, ◌-◌, ◌≤◌}
+use Prim.Native.Nat.{◌-◌, ◌≤◌}
 use mathlib.Core.Path.{◌≡◌}
-use native.Mathlib.Omega.{arith}
-use Rattle.entry_search.specs.Search.{passes, run_passing}
-use Rattle.entry_search.proofs.InBoxes.{many_most, sum_begins, sum_more}
+use Rattle.entry_search.specs.Search.{run_passing}
 use Rattle.entry_search.proofs.search.run_passed.Given as goal
 
 abbrev pub invariant-loop-j : goal.invariant-loop-j

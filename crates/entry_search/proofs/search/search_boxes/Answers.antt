@@ -1,16 +1,12 @@
-use Prim.Native.Nat.{◌+◌, ◌-◌, ◌≤◌, ◌<◌}
-use mathlib.Core.Path.{◌≡◌, refl, sym, ap, ◌∙◌}
+use Prim.Native.Nat.{◌≤◌, ◌<◌}
+use mathlib.Core.Path.{refl, sym, ap, ◌∙◌}
 use native.Mathlib.Omega.{arith}
-use lib.ListN.{length}
-use borrow.Author.Rules.{rules}
 use Rattle.certificate.specs.declared.Report.{Report}
-use Rattle.certificate.specs.Checks.{fine}
 use Rattle.certificate.specs.Layout.{cells_of, boxes_of}
-use Rattle.certificate.specs.Loops.{any_to}
 use Rattle.certificate.proofs.Loops.{any_none, any_more}
 use Rattle.judging.specs.Overflow.{box_overflows}
 use Rattle.entry_search.proofs.Overflowing.{all_boxes}
-use Rattle.entry_search.proofs.InBoxes.{AtBox, InBox, box_none, box_begins, box_shut, total_most, cell_more, cell_stops, box_end}
+use Rattle.entry_search.proofs.InBoxes.{box_none, box_begins, box_shut, total_most, cell_more, cell_stops, box_end}
 use Rattle.entry_search.proofs.search.search_boxes.Goals as goal
 
 pub search-init : goal.search-init

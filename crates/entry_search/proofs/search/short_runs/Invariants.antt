@@ -1,11 +1,8 @@
 -- `entry_search::search::short_runs` meets its contract.
-use Prim.Native.Nat.{◌+◌, ◌*◌, ◌-◌, ◌≤◌}
-use mathlib.Core.Path.{◌≡◌, ◌∙◌}
-use native.Mathlib.Nat.{mul-le-mul_right, mul_comm}
-use native.Mathlib.Omega.{arith}
+use Prim.Native.Nat.{◌-◌, ◌≤◌}
+use mathlib.Core.Path.{◌≡◌}
 use Rattle.certificate.specs.Loops.{sum_to}
 use Rattle.entry_search.specs.Search.{column_passing}
-use Rattle.entry_search.proofs.InBoxes.{sum_begins, sum_more, columns_most, by_columns}
 use Rattle.entry_search.proofs.search.short_runs.Given as goal
 
 abbrev pub invariant-loop-j : goal.invariant-loop-j

@@ -1,5 +1,4 @@
 -- `entry_search::search::successor_number` meets its contract.
-use borrow.Author.Rules.{rules}
 use native.Mathlib.Omega.{arith}
 use Rattle.entry_search.proofs.Successors.{is_unlisted, is_higher, is_met}
 use Rattle.entry_search.proofs.search.successor_number.Goals as goal

@@ -2,7 +2,6 @@
 use mathlib.Core.Path.{sym, ◌∙◌}
 use native.Mathlib.Omega.{arith}
 use Rattle.entry_search.proofs.InBoxes.{runs_fit, cell_none, box_passes}
-use borrow.Author.Rules.{rules}
 use Rattle.entry_search.proofs.search.whole_box.Goals as goal
 
 pub runs_passed-looked-requires : goal.runs_passed-looked-requires

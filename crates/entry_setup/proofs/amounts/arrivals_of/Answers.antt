@@ -1,10 +1,8 @@
-use Prim.Native.Nat.{◌*◌, ◌-◌}
+use Prim.Native.Nat.{◌*◌}
 use mathlib.Core.Path.{refl}
 use native.Mathlib.Omega.{arith}
 use borrow.Author.Count.{below_none}
-use borrow.Author.Rules.{rules}
-use Rattle.octets.proofs.FilledTables.{Filled, filled_more}
-use Rattle.entry_setup.specs.Tables.{arrival_entry}
+use Rattle.octets.proofs.FilledTables.{filled_more}
 use Rattle.entry_setup.proofs.Arrivals.{arrivals_filled}
 use Rattle.entry_setup.proofs.amounts.arrivals_of.Goals as goal
 

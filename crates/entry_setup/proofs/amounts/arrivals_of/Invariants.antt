@@ -1,12 +1,7 @@
 -- `entry_setup::amounts::arrivals_of` meets its contract.
-use Prim.Native.Nat.{◌*◌, ◌-◌}
-use mathlib.Core.Path.{refl}
-use native.Mathlib.Omega.{arith}
-use borrow.Author.Count.{below_none}
-use borrow.Author.Rules.{rules}
-use Rattle.octets.proofs.FilledTables.{Filled, filled_more}
+use Prim.Native.Nat.{◌-◌}
+use Rattle.octets.proofs.FilledTables.{Filled}
 use Rattle.entry_setup.specs.Tables.{arrival_entry}
-use Rattle.entry_setup.proofs.Arrivals.{arrivals_filled}
 use Rattle.entry_setup.proofs.amounts.arrivals_of.Given as goal
 
 abbrev pub invariant-loop-k : goal.invariant-loop-k

@@ -1,10 +1,8 @@
-use Prim.Native.Nat.{ℕ, ◌*◌, ◌-◌}
+use Prim.Native.Nat.{ℕ, ◌*◌}
 use mathlib.Core.Path.{refl, ap}
 use native.Mathlib.Omega.{arith}
 use borrow.Author.Count.{below_none}
-use borrow.Author.Rules.{rules}
-use Rattle.octets.proofs.FilledTables.{Filled, filled_more}
-use Rattle.certificate.specs.Layout.{cap_of}
+use Rattle.octets.proofs.FilledTables.{filled_more}
 use Rattle.entry_setup.proofs.amounts.caps_of.Goals as goal
 
 pub loop-l-init : goal.loop-l-init

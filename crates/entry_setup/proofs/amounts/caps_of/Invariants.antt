@@ -1,10 +1,6 @@
 -- `entry_setup::amounts::caps_of` meets its contract.
-use Prim.Native.Nat.{ℕ, ◌*◌, ◌-◌}
-use mathlib.Core.Path.{refl, ap}
-use native.Mathlib.Omega.{arith}
-use borrow.Author.Count.{below_none}
-use borrow.Author.Rules.{rules}
-use Rattle.octets.proofs.FilledTables.{Filled, filled_more}
+use Prim.Native.Nat.{◌*◌, ◌-◌}
+use Rattle.octets.proofs.FilledTables.{Filled}
 use Rattle.certificate.specs.Layout.{cap_of}
 use Rattle.entry_setup.proofs.amounts.caps_of.Given as goal
 

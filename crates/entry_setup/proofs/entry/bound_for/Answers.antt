@@ -1,5 +1,4 @@
 -- `entry_setup::entry::bound_for` meets its contract.
-use borrow.Author.Rules.{rules}
 use borrow.Author.Tests.{eq-eqb, ne_eqb}
 use Rattle.entry_setup.specs.Tables.{bound_for}
 use Rattle.entry_setup.proofs.entry.bound_for.Goals as goal

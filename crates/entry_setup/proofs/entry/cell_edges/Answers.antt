@@ -1,11 +1,10 @@
-use Prim.Native.Nat.{◌-◌, ◌≤◌, ◌<◌}
+use Prim.Native.Nat.{◌<◌}
 use mathlib.Core.Path.{ap, ◌∙◌}
 use native.Mathlib.Omega.{arith}
 use borrow.Author.Count.{below_none}
 use Rattle.certificate.specs.Layout.{links_of}
 use Rattle.grid.specs.Intervals.{lower_edge, upper_edge}
-use Rattle.grid.specs.Cells.{lower_of, upper_of}
-use Rattle.octets.proofs.FilledTables.{Filled, filled_more}
+use Rattle.octets.proofs.FilledTables.{filled_more}
 use Rattle.entry_setup.proofs.entry.cell_edges.Goals as goal
 
 pub loop-l-init : goal.loop-l-init

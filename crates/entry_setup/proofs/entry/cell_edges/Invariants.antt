@@ -1,12 +1,7 @@
 -- `entry_setup::entry::cell_edges` meets its contract.
-use Prim.Native.Nat.{◌-◌, ◌≤◌, ◌<◌}
-use mathlib.Core.Path.{ap, ◌∙◌}
-use native.Mathlib.Omega.{arith}
-use borrow.Author.Count.{below_none}
-use Rattle.certificate.specs.Layout.{links_of}
-use Rattle.grid.specs.Intervals.{lower_edge, upper_edge}
+use Prim.Native.Nat.{◌-◌, ◌≤◌}
 use Rattle.grid.specs.Cells.{lower_of, upper_of}
-use Rattle.octets.proofs.FilledTables.{Filled, filled_more}
+use Rattle.octets.proofs.FilledTables.{Filled}
 use Rattle.entry_setup.proofs.entry.cell_edges.Given as goal
 
 abbrev pub invariant-loop-l : goal.invariant-loop-l

@@ -1,6 +1,5 @@
 -- `entry_setup::entry::entry_ends` meets its contract.
 use Rattle.entry_setup.proofs.EntryEnds.{limits_fit, ends_are, edges_within, layout_network}
-use borrow.Author.Rules.{rules}
 use Rattle.entry_setup.proofs.entry.entry_ends.Goals as goal
 
 pub ends_of-requires : goal.ends_of-requires

@@ -1,7 +1,6 @@
 -- `entry_setup::entry::entry_limits` meets its contract.
 use Rattle.screening.proofs.Bounds.{link_whole}
 use Rattle.entry_setup.proofs.EntryEnds.{byte_is, limits_are, layout_network}
-use borrow.Author.Rules.{rules}
 use Rattle.entry_setup.proofs.entry.entry_limits.Goals as goal
 
 pub byte_before-requires : goal.byte_before-requires

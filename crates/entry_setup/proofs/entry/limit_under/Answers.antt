@@ -1,5 +1,4 @@
 -- `entry_setup::entry::limit_under` meets its contract.
-use borrow.Author.Rules.{rules}
 use Rattle.octets.proofs.Cases.{by_yes, by_no, not_yes, not_no}
 use Rattle.octets.proofs.Picking.{pick_yes, pick_no}
 use Rattle.entry_setup.proofs.entry.limit_under.Goals as goal

@@ -1,10 +1,7 @@
-use Prim.Native.Nat.{ℕ, ◌-◌}
 use mathlib.Core.Path.{refl}
 use native.Mathlib.Omega.{arith}
 use borrow.Author.Count.{below_none}
-use borrow.Author.Rules.{rules}
-use Rattle.octets.proofs.FilledTables.{Filled, filled_more}
-use Rattle.entry_setup.specs.Tables.{limit_by}
+use Rattle.octets.proofs.FilledTables.{filled_more}
 use Rattle.entry_setup.proofs.entry.limits_under.Goals as goal
 
 pub loop-l-init : goal.loop-l-init

@@ -1,10 +1,6 @@
 -- `entry_setup::entry::limits_under` meets its contract.
-use Prim.Native.Nat.{ℕ, ◌-◌}
-use mathlib.Core.Path.{refl}
-use native.Mathlib.Omega.{arith}
-use borrow.Author.Count.{below_none}
-use borrow.Author.Rules.{rules}
-use Rattle.octets.proofs.FilledTables.{Filled, filled_more}
+use Prim.Native.Nat.{◌-◌}
+use Rattle.octets.proofs.FilledTables.{Filled}
 use Rattle.entry_setup.specs.Tables.{limit_by}
 use Rattle.entry_setup.proofs.entry.limits_under.Given as goal
 

@@ -2,7 +2,6 @@
 use mathlib.Core.Path.{refl}
 use native.Mathlib.Omega.{arith}
 use Rattle.entry_setup.proofs.Tasks.{row_fits, is_task}
-use borrow.Author.Rules.{rules}
 use Rattle.entry_setup.proofs.entry.task_of.Goals as goal
 
 pub overflow_mul-result : goal.overflow_mul-result

@@ -1,11 +1,6 @@
-use Prim.Native.Nat.{◌-◌, ◌≤◌}
 use mathlib.Core.Path.{◌≡◌, refl}
 use native.Mathlib.Omega.{arith}
-use borrow.Author.Rules.{rules}
-use lib.ListN.{length}
 use Rattle.certificate.specs.Layout.{links_of}
-use Rattle.supply.specs.Supply.{at}
-use Rattle.images.specs.Ends.{EndsSoFar}
 use Rattle.screening.proofs.Bounds.{network_own, links_most}
 use Rattle.images.proofs.Caps.{queue_most}
 use Rattle.images.proofs.EndsLinkByLink.{side_none, both_sides}

@@ -1,15 +1,9 @@
 -- `images::ends::ends_of` meets its contract.
 use Prim.Native.Nat.{◌-◌, ◌≤◌}
-use mathlib.Core.Path.{◌≡◌, refl}
-use native.Mathlib.Omega.{arith}
-use borrow.Author.Rules.{rules}
+use mathlib.Core.Path.{◌≡◌}
 use lib.ListN.{length}
-use Rattle.certificate.specs.Layout.{links_of}
 use Rattle.supply.specs.Supply.{at}
 use Rattle.images.specs.Ends.{EndsSoFar}
-use Rattle.screening.proofs.Bounds.{network_own, links_most}
-use Rattle.images.proofs.Caps.{queue_most}
-use Rattle.images.proofs.EndsLinkByLink.{side_none, both_sides}
 use Rattle.images.proofs.ends.ends_of.Given as goal
 
 abbrev pub invariant-loop-l : goal.invariant-loop-l

@@ -1,10 +1,8 @@
-use Prim.Native.Nat.{◌*◌, ◌-◌, ◌≤◌}
 use mathlib.Core.Path.{refl}
 use native.Mathlib.Omega.{arith}
 use borrow.Author.Count.{below_none}
 use borrow.Author.Rules.{rules}
-use Rattle.supply.specs.Supply.{at}
-use Rattle.octets.proofs.FilledTables.{Filled, filled_more}
+use Rattle.octets.proofs.FilledTables.{filled_more}
 use Rattle.images.proofs.ends.scale.Goals as goal
 
 pub loop-l-init : goal.loop-l-init

@@ -1,11 +1,7 @@
 -- `images::ends::scale` meets its contract.
 use Prim.Native.Nat.{◌*◌, ◌-◌, ◌≤◌}
-use mathlib.Core.Path.{refl}
-use native.Mathlib.Omega.{arith}
-use borrow.Author.Count.{below_none}
-use borrow.Author.Rules.{rules}
 use Rattle.supply.specs.Supply.{at}
-use Rattle.octets.proofs.FilledTables.{Filled, filled_more}
+use Rattle.octets.proofs.FilledTables.{Filled}
 use Rattle.images.proofs.ends.scale.Given as goal
 
 abbrev pub invariant-loop-l : goal.invariant-loop-l

@@ -1,8 +1,7 @@
 -- `images::ends::send` meets its contract.
-use Prim.Native.Nat.{◌+◌, ◌*◌, ◌≤◌}
+use Prim.Native.Nat.{◌+◌, ◌≤◌}
 use mathlib.Core.Path.{◌≡◌, refl}
 use native.Mathlib.Omega.{arith}
-use borrow.Author.Rules.{rules}
 use Rattle.certificate.specs.Layout.{turns_of}
 use Rattle.supply.specs.Supply.{at}
 use Rattle.screening.proofs.Bounds.{links_most}

@@ -1,5 +1,4 @@
 -- `mode_checks::goals::agrees_with` meets its contract.
-use borrow.Author.Rules.{rules}
 use Rattle.mode_checks.proofs.goals.agrees_with.Goals as goal
 
 pub returns : goal.returns

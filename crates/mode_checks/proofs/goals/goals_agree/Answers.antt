@@ -1,8 +1,6 @@
 use mathlib.Core.Path.{ap}
 use mathlib.Core.Bool.{not}
-use Prim.Native.Nat.{◌-◌}
-use mathlib.Core.Path.{◌≡◌, refl}
-use borrow.Author.Rules.{rules}
+use mathlib.Core.Path.{refl}
 use Rattle.certificate.specs.Records.{goals_agree}
 use Rattle.mode_checks.proofs.ModeTests.{agree_from, agree_on, agree_stop, agree_end}
 use Rattle.mode_checks.proofs.goals.goals_agree.Goals as goal

@@ -1,9 +1,8 @@
 -- `mode_checks::goals::goals_agree` meets its contract.
 use Prim.Native.Nat.{◌-◌}
-use mathlib.Core.Path.{◌≡◌, refl}
-use borrow.Author.Rules.{rules}
+use mathlib.Core.Path.{◌≡◌}
 use Rattle.certificate.specs.Records.{goals_agree}
-use Rattle.mode_checks.proofs.ModeTests.{agree_from, agree_on, agree_stop, agree_end}
+use Rattle.mode_checks.proofs.ModeTests.{agree_from}
 use Rattle.mode_checks.proofs.goals.goals_agree.Given as goal
 
 abbrev pub invariant-loop-k : goal.invariant-loop-k

@@ -1,5 +1,4 @@
 -- `mode_checks::goals::goals_ok` meets its contract.
-use borrow.Author.Rules.{rules}
 use Rattle.certificate.specs.Octets.{◌also◌}
 use Rattle.certificate.specs.Records.{goals_ok}
 use Rattle.mode_checks.proofs.goals.goals_ok.Goals as goal

@@ -1,7 +1,4 @@
-use Prim.Native.Nat.{◌-◌}
-use mathlib.Core.Path.{◌≡◌, refl}
-use native.Mathlib.Omega.{arith}
-use borrow.Author.Rules.{rules}
+use mathlib.Core.Path.{refl}
 use Rattle.certificate.specs.Records.{goals_safe}
 use Rattle.mode_checks.proofs.ModeTests.{safe_from, safe_on, safe_stop, safe_end}
 use Rattle.mode_checks.proofs.goals.goals_safe.Goals as goal

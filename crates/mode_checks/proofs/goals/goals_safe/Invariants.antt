@@ -1,10 +1,8 @@
 -- `mode_checks::goals::goals_safe` meets its contract.
 use Prim.Native.Nat.{◌-◌}
-use mathlib.Core.Path.{◌≡◌, refl}
-use native.Mathlib.Omega.{arith}
-use borrow.Author.Rules.{rules}
+use mathlib.Core.Path.{◌≡◌}
 use Rattle.certificate.specs.Records.{goals_safe}
-use Rattle.mode_checks.proofs.ModeTests.{safe_from, safe_on, safe_stop, safe_end}
+use Rattle.mode_checks.proofs.ModeTests.{safe_from}
 use Rattle.mode_checks.proofs.goals.goals_safe.Given as goal
 
 abbrev pub invariant-loop-l : goal.invariant-loop-l

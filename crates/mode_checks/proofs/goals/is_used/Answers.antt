@@ -1,8 +1,5 @@
-use Prim.Native.Nat.{◌-◌, ◌≤◌}
-use mathlib.Core.Path.{◌≡◌}
 use native.Mathlib.Omega.{arith}
-use borrow.Author.Rules.{rules}
-use Rattle.mode_checks.proofs.ModeTests.{used_to, used_none, used_more, used_all}
+use Rattle.mode_checks.proofs.ModeTests.{used_none, used_more, used_all}
 use Rattle.mode_checks.proofs.goals.is_used.Goals as goal
 
 pub loop-m-init : goal.loop-m-init

@@ -1,9 +1,7 @@
 -- `mode_checks::goals::is_used` meets its contract.
 use Prim.Native.Nat.{◌-◌, ◌≤◌}
 use mathlib.Core.Path.{◌≡◌}
-use native.Mathlib.Omega.{arith}
-use borrow.Author.Rules.{rules}
-use Rattle.mode_checks.proofs.ModeTests.{used_to, used_none, used_more, used_all}
+use Rattle.mode_checks.proofs.ModeTests.{used_to}
 use Rattle.mode_checks.proofs.goals.is_used.Given as goal
 
 abbrev pub invariant-loop-m : goal.invariant-loop-m

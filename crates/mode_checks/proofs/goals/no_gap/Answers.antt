@@ -1,8 +1,6 @@
 use mathlib.Core.Path.{ap}
 use mathlib.Core.Bool.{not}
-use Prim.Native.Nat.{◌-◌}
-use mathlib.Core.Path.{◌≡◌, refl}
-use borrow.Author.Rules.{rules}
+use mathlib.Core.Path.{refl}
 use Rattle.certificate.specs.Records.{no_gap}
 use Rattle.mode_checks.proofs.ModeTests.{used_from, used_on, used_stop, used_end}
 use Rattle.mode_checks.proofs.goals.no_gap.Goals as goal

@@ -1,9 +1,8 @@
 -- `mode_checks::goals::no_gap` meets its contract.
 use Prim.Native.Nat.{◌-◌}
-use mathlib.Core.Path.{◌≡◌, refl}
-use borrow.Author.Rules.{rules}
+use mathlib.Core.Path.{◌≡◌}
 use Rattle.certificate.specs.Records.{no_gap}
-use Rattle.mode_checks.proofs.ModeTests.{used_from, used_on, used_stop, used_end}
+use Rattle.mode_checks.proofs.ModeTests.{used_from}
 use Rattle.mode_checks.proofs.goals.no_gap.Given as goal
 
 abbrev pub invariant-loop-n : goal.invariant-loop-n

@@ -1,7 +1,4 @@
-use Prim.Native.Nat.{◌-◌}
-use mathlib.Core.Path.{◌≡◌, refl}
-use native.Mathlib.Omega.{arith}
-use borrow.Author.Rules.{rules}
+use mathlib.Core.Path.{refl}
 use Rattle.certificate.specs.Records.{same_goals}
 use Rattle.mode_checks.proofs.ModeTests.{same_from, same_on, same_stop, same_end}
 use Rattle.mode_checks.proofs.goals.same_goals.Goals as goal

@@ -1,10 +1,8 @@
 -- `mode_checks::goals::same_goals` meets its contract.
 use Prim.Native.Nat.{◌-◌}
-use mathlib.Core.Path.{◌≡◌, refl}
-use native.Mathlib.Omega.{arith}
-use borrow.Author.Rules.{rules}
+use mathlib.Core.Path.{◌≡◌}
 use Rattle.certificate.specs.Records.{same_goals}
-use Rattle.mode_checks.proofs.ModeTests.{same_from, same_on, same_stop, same_end}
+use Rattle.mode_checks.proofs.ModeTests.{same_from}
 use Rattle.mode_checks.proofs.goals.same_goals.Given as goal
 
 abbrev pub invariant-loop-l : goal.invariant-loop-l

@@ -1,7 +1,6 @@
 -- `mode_checks::modes::check_mode` meets its contract.
 use Rattle.certificate.specs.Records.{mode_fault}
 use Rattle.mode_records.proofs.ModeFields.{mode_here}
-use borrow.Author.Rules.{rules}
 use Rattle.mode_checks.proofs.modes.check_mode.Goals as goal
 
 pub returns : goal.returns

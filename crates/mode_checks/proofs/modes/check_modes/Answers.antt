@@ -1,10 +1,4 @@
-use Prim.Native.Nat.{◌-◌}
-use mathlib.Core.Path.{◌≡◌}
 use borrow.Author.Rules.{rules}
-use Rattle.certificate.specs.Checks.{first_from}
-use Rattle.certificate.specs.Layout.{modes_of}
-use Rattle.certificate.specs.Records.{mode_fault}
-use Rattle.certificate.specs.Reading.{modes_fault}
 use Rattle.octets.proofs.Cases.{go_on, stop, end, by_no, by_yes}
 use Rattle.mode_checks.proofs.ModeTests.{no_records, all_records}
 use Rattle.mode_checks.proofs.modes.check_modes.Goals as goal

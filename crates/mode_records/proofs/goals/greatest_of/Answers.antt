@@ -1,9 +1,4 @@
-use Prim.Native.Nat.{◌-◌, ◌<◌, ◌≤◌}
-use mathlib.Core.Path.{◌≡◌}
 use native.Mathlib.Omega.{arith}
-use borrow.Author.Rules.{rules}
-use Rattle.certificate.specs.Loops.{greatest_to}
-use Rattle.certificate.specs.Layout.{goal_number_of}
 use Rattle.mode_records.proofs.ModeFields.{greatest_none, greatest_more, greatest_all}
 use Rattle.mode_records.proofs.goals.greatest_of.Goals as goal
 

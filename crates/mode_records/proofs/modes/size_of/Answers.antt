@@ -1,6 +1,5 @@
 -- `mode_records::modes::size_of` meets its contract.
 use native.Mathlib.Omega.{arith}
-use borrow.Author.Rules.{rules}
 use Rattle.certificate.specs.Layout.{mode_size}
 use Rattle.octets.proofs.Cases.{by_yes, by_no}
 use Rattle.octets.proofs.Picking.{pick_yes, pick_no}

@@ -1,10 +1,8 @@
 -- `octets::filling::put` meets its contract. The loop's invariant: the first i bytes are copied, and the rest is as it was.
-use mathlib.Core.Path.{◌≡◌, refl, ◌∙◌}
+use mathlib.Core.Path.{◌≡◌}
 use mathlib.Core.List.{◌++◌}
 use Prim.Native.Nat.{◌-◌, ◌≤◌}
-use native.Mathlib.Omega.{arith}
-use lib.ListN.{length, take, drop, length-set}
-use Rattle.octets.proofs.Copying.{copy_more}
+use lib.ListN.{length, take, drop}
 use Rattle.octets.proofs.filling.put.Given as goal
 
 abbrev pub invariant-loop-i : goal.invariant-loop-i

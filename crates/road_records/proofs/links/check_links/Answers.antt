@@ -1,8 +1,3 @@
-use Prim.Native.Nat.{◌-◌}
-use mathlib.Core.Path.{◌≡◌}
-use borrow.Author.Rules.{rules}
-use Rattle.certificate.specs.Checks.{first_from}
-use Rattle.certificate.specs.Records.{link_fault}
 use Rattle.octets.proofs.Cases.{go_on, stop, end}
 use Rattle.road_records.proofs.links.check_links.Goals as goal
 

@@ -1,10 +1,8 @@
 -- `road_records::links::check_links` meets its contract.
 use Prim.Native.Nat.{◌-◌}
 use mathlib.Core.Path.{◌≡◌}
-use borrow.Author.Rules.{rules}
 use Rattle.certificate.specs.Checks.{first_from}
 use Rattle.certificate.specs.Records.{link_fault}
-use Rattle.octets.proofs.Cases.{go_on, stop, end}
 use Rattle.road_records.proofs.links.check_links.Given as goal
 
 abbrev pub invariant-loop-l : goal.invariant-loop-l

@@ -1,7 +1,6 @@
 -- `road_records::links::link_ok` meets its contract.
 use Rattle.certificate.specs.Octets.{◌also◌}
 use Rattle.certificate.specs.Records.{link_ok}
-use borrow.Author.Rules.{rules}
 use Rattle.road_records.proofs.links.link_ok.Goals as goal
 
 pub returns : goal.returns

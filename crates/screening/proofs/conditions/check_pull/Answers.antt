@@ -1,5 +1,4 @@
 -- `screening::conditions::check_pull` meets its contract.
-use borrow.Author.Rules.{rules}
 use Rattle.octets.proofs.Cases.{cases}
 use Rattle.screening.proofs.conditions.check_pull.Goals as goal
 

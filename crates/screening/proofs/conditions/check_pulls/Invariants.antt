@@ -1,9 +1,7 @@
 -- `screening::conditions::check_pulls` meets its contract.
 use Prim.Native.Nat.{◌-◌}
 use mathlib.Core.Path.{◌≡◌}
-use borrow.Author.Rules.{rules}
 use Rattle.certificate.specs.Checks.{first_from}
-use Rattle.octets.proofs.Cases.{go_on, stop, end}
 use Rattle.network.specs.Conditions.{signal_pulls_fault, pulls_fault}
 use Rattle.screening.proofs.conditions.check_pulls.Given as goal
 

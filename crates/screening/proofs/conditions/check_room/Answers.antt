@@ -1,5 +1,4 @@
 -- `screening::conditions::check_room` meets its contract.
-use borrow.Author.Rules.{rules}
 use Rattle.octets.proofs.Cases.{cases}
 use Rattle.network.specs.Conditions.{room_fault}
 use Rattle.screening.proofs.conditions.check_room.Goals as goal

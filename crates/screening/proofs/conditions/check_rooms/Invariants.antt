@@ -1,12 +1,8 @@
 -- `screening::conditions::check_rooms` meets its contract.
 use Prim.Native.Nat.{◌-◌}
 use mathlib.Core.Path.{◌≡◌}
-use native.Mathlib.Omega.{arith}
-use borrow.Author.Rules.{rules}
 use Rattle.certificate.specs.Checks.{first_from}
-use Rattle.octets.proofs.Cases.{go_on, stop, end}
 use Rattle.network.specs.Conditions.{room_fault, rooms_fault}
-use Rattle.screening.proofs.Bounds.{turns_most, to_room}
 use Rattle.screening.proofs.conditions.check_rooms.Given as goal
 
 abbrev pub invariant-loop-t : goal.invariant-loop-t

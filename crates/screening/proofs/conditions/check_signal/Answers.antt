@@ -1,13 +1,12 @@
-use Prim.Native.Nat.{ℕ, ◌-◌}
+use Prim.Native.Nat.{ℕ}
 use mathlib.Core.List.{List}
 use mathlib.Core.Path.{◌≡◌, ◌∙◌}
 use native.Mathlib.Omega.{arith}
-use borrow.Author.Rules.{rules}
 use lib.Dec.{leb}
 use Rattle.certificate.specs.declared.Report.{Report}
 use Rattle.certificate.specs.Octets.{bit_of}
 use Rattle.certificate.specs.Layout.{green_byte_of}
-use Rattle.certificate.specs.Checks.{report_with, fine, need, first_from}
+use Rattle.certificate.specs.Checks.{report_with, fine, need}
 use Rattle.octets.proofs.Cases.{go_on, stop, end}
 use Rattle.network.specs.Network.{network_of}
 use Rattle.network.specs.Conditions.{pull_sum, pull_fault, signal_pulls_fault}

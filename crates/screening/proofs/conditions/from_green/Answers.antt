@@ -1,5 +1,4 @@
 -- `screening::conditions::from_green` meets its contract.
-use borrow.Author.Rules.{rules}
 use Rattle.screening.proofs.conditions.from_green.Goals as goal
 
 pub returns : goal.returns

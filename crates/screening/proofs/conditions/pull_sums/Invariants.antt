@@ -1,14 +1,9 @@
 -- `screening::conditions::pull_sums` meets its contract.
-use Prim.Native.Nat.{◌*◌, ◌-◌, ◌≤◌, ◌<◌}
-use mathlib.Core.Path.{◌≡◌}
-use native.Mathlib.Omega.{arith}
-use borrow.Author.Rules.{rules}
+use Prim.Native.Nat.{◌*◌, ◌-◌, ◌≤◌}
 use Rattle.certificate.specs.Octets.{bit_of}
 use Rattle.certificate.specs.Loops.{pick}
-use Rattle.certificate.specs.Layout.{links_of, turns_of, from_of, to_of, share_of, pull_of}
-use Rattle.network.specs.Conditions.{pull_sum}
-use Rattle.screening.proofs.Bounds.{turns_most, links_most, from_most, to_link, turn_whole}
-use Rattle.screening.proofs.Summing.{Summed, summed_zeros, summed_more}
+use Rattle.certificate.specs.Layout.{links_of, from_of, to_of, share_of, pull_of}
+use Rattle.screening.proofs.Summing.{Summed}
 use Rattle.screening.proofs.conditions.pull_sums.Given as goal
 
 abbrev pub invariant-loop-t : goal.invariant-loop-t

@@ -1,7 +1,6 @@
 -- `screening::conditions::room_ok` meets its contract.
 use Prim.Native.Nat.{◌-◌, ◌≤◌}
 use native.Mathlib.Omega.{arith}
-use borrow.Author.Rules.{rules}
 use Rattle.octets.proofs.Fitting.{product_most}
 use Rattle.network.specs.Conditions.{room_ok}
 use Rattle.screening.proofs.conditions.room_ok.Goals as goal

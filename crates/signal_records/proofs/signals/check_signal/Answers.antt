@@ -1,6 +1,5 @@
 -- `signal_records::signals::check_signal` meets its contract.
 use Rattle.certificate.specs.Records.{signal_ok, signal_fault}
-use borrow.Author.Rules.{rules}
 use Rattle.signal_records.proofs.signals.check_signal.Goals as goal
 
 pub returns : goal.returns

@@ -1,10 +1,8 @@
 -- `signal_records::signals::check_signals` meets its contract.
 use Prim.Native.Nat.{◌-◌}
 use mathlib.Core.Path.{◌≡◌}
-use borrow.Author.Rules.{rules}
 use Rattle.certificate.specs.Checks.{first_from}
 use Rattle.certificate.specs.Records.{signal_fault}
-use Rattle.octets.proofs.Cases.{go_on, stop, end}
 use Rattle.signal_records.proofs.signals.check_signals.Given as goal
 
 abbrev pub invariant-loop-g : goal.invariant-loop-g
