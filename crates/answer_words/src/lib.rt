@@ -39,7 +39,7 @@ pub fn verdict_word(v: Verdict) -> u64
 }
 
 // The queues that bytes are, and how many.
-#[derive(Drop)]
+#[derive(Clone, Copy)]
 pub struct Queues {
     pub count: usize,
     pub of: [u32; limits::MAX_LINKS],

@@ -11,7 +11,7 @@ use road_records::links;
 
 // What reading the grids finds: their report; and where that is no refusal, where each link's record stands,
 // where the last one ends, and how many cells there are.
-#[derive(Drop)]
+#[derive(Clone, Copy)]
 pub struct Grids {
     pub report: Report,
     pub places: [usize; limits::MAX_LINKS],

@@ -76,10 +76,9 @@ pub fn do_poll(rt: &impl Print, state: Controller, poll: &[u8]) -> io::Result<Co
     Ok(next)
 }
 
-// A write takes the state, so it gets a copy.
 pub fn do_write(
     rt: &impl Print,
-    state: &Controller,
+    state: Controller,
     lent: &mut [u8],
     size: usize,
     start: usize,
@@ -88,12 +87,7 @@ pub fn do_write(
         return Ok(());
     }
     buffer::prepare(&mut lent[0..size]);
-    let held = Controller {
-        len: state.len,
-        bytes: state.bytes,
-        mode: state.mode,
-    };
-    case_output::report(rt, b"write", held.write(&mut lent[0..size], start))?;
+    case_output::report(rt, b"write", state.write(&mut lent[0..size], start))?;
     case_output::medium(rt, b" sum ", buffer::hash(&lent[0..size]))?;
     case_output::text(rt, b"\n")
 }

@@ -38,7 +38,7 @@ fn answer(
         b'Q' => calls::do_query(rt, state, parts::front_numbers(queues, n), call.scale),
         b'P' => calls::do_poll(rt, state, parts::front(bytes, n)),
         b'W' => {
-            calls::do_write(rt, &state, lent, n, call.start)?;
+            calls::do_write(rt, state, lent, n, call.start)?;
             Ok(state)
         }
         b'M' => {

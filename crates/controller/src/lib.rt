@@ -13,7 +13,7 @@ mod writing;
 
 // The state by value: how many bytes the stored certificate has, the array that holds them, and the mode. The order is one of speed: copies of
 // the state took longest with the array first.
-#[derive(Drop)]
+#[derive(Clone, Copy)]
 pub struct Controller {
     pub len: usize,
     pub bytes: [u8; Controller::SIZE],
@@ -116,7 +116,7 @@ impl Controller {
 }
 
 // What a load answers: its report, the next state, and in an acceptance the number of entries that may turn arrivals away.
-#[derive(Drop)]
+#[derive(Clone, Copy)]
 pub struct Loaded {
     pub report: Report,
     pub state: Controller,
@@ -124,7 +124,7 @@ pub struct Loaded {
 }
 
 // What a query answers: its report, the signal to show and its green byte, and the next state.
-#[derive(Drop)]
+#[derive(Clone, Copy)]
 pub struct Shown {
     pub report: Report,
     pub signal: u8,

@@ -21,7 +21,7 @@ use Rattle.controller.proofs.Lookups.{none_held}
 use Rattle.controller.proofs.Writings.{write_empty, write_refused}
 use Rattle.held_state.specs.declared.Display.{Display}
 use Rattle.packed_state.specs.State.{state_size, bytes_after}
-use Rattle.held_state.specs.Held.{fresh_report, load_report, load_overflows, display_of, HeldFresh, HeldLoad, Displayed}
+use Rattle.held_state.specs.Held.{load_report, load_overflows, display_of, HeldFresh, HeldLoad, Displayed}
 use Rattle.held_state.specs.Laws.{OtherLengths, RightLength}
 use Rattle.packed_state.proofs.Packing.{other_length, refusal_keeps, same_after}
 

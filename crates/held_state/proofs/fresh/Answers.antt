@@ -1,7 +1,6 @@
 -- `held_state::fresh` meets its contract: 18 and the bytes as they were, or the fresh state's.
 use Rattle.packed_state.proofs.Packing.{is_state, is_none}
 use Rattle.held_state.proofs.Lengths.{no_state_fresh, fresh_passes}
-use borrow.Author.Rules.{rules}
 use Rattle.held_state.proofs.fresh.Goals as goal
 
 pub returns-then-not-has_state_size : goal.returns-then-not-has_state_size

@@ -1,7 +1,6 @@
 -- `held_state::load` meets its contract: 18, or the load's report and the next state's bytes.
 use Rattle.packed_state.proofs.Packing.{is_state, is_none}
 use Rattle.held_state.proofs.Lengths.{no_state_load, load_passes}
-use borrow.Author.Rules.{rules}
 use Rattle.held_state.proofs.load.Goals as goal
 
 pub returns-then-not-has_state_size : goal.returns-then-not-has_state_size

@@ -1,5 +1,4 @@
 -- `held_state::no_state` meets its contract: the refusal, with nothing to show.
-use borrow.Author.Rules.{rules}
 use Rattle.held_state.proofs.no_state.Goals as goal
 
 pub returns : goal.returns

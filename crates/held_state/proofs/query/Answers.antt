@@ -4,7 +4,6 @@ use lib.ListN.{length}
 use Rattle.packed_state.specs.State.{state_size}
 use Rattle.packed_state.proofs.Packing.{is_state, is_none}
 use Rattle.held_state.proofs.Lengths.{other_lengths, no_state_display}
-use borrow.Author.Rules.{rules}
 use Rattle.held_state.proofs.query.Goals as goal
 
 pub returns-then-not-has_state_size : goal.returns-then-not-has_state_size

@@ -1,6 +1,5 @@
 -- `packed_state::eight_at` meets its contract: two numbers of four bytes.
 use Rattle.packed_state.specs.State.{eight_at}
-use borrow.Author.Rules.{rules}
 use Rattle.packed_state.proofs.eight_at.Goals as goal
 
 pub returns : goal.returns

@@ -1,7 +1,6 @@
 -- `packed_state::put_tail` meets its contract: nine bytes at the front of a slice that has room.
 use mathlib.Core.Path.{◌∙◌}
 use Rattle.packed_state.specs.State.{state_tail}
-use borrow.Author.Rules.{rules}
 use Rattle.packed_state.proofs.put_tail.Goals as goal
 
 pub returns : goal.returns

@@ -1,7 +1,6 @@
 -- `packed_state::quad_at` meets its contract: two numbers of two bytes.
 use Rattle.packed_state.specs.State.{quad_at}
 use native.Mathlib.Omega.{arith}
-use borrow.Author.Rules.{rules}
 use Rattle.packed_state.proofs.quad_at.Goals as goal
 
 pub returns : goal.returns

@@ -1,6 +1,5 @@
 -- `packed_state::tail_of` meets its contract: eight octets and the mode.
 use Rattle.packed_state.specs.State.{state_tail}
-use borrow.Author.Rules.{rules}
 use Rattle.packed_state.proofs.tail_of.Goals as goal
 
 pub returns : goal.returns

@@ -2,7 +2,6 @@
 use mathlib.Core.Path.{refl}
 use Rattle.certificate.specs.Layout.{max_length}
 use Rattle.packed_state.proofs.Packing.{copied, made}
-use borrow.Author.Rules.{rules}
 use Rattle.packed_state.proofs.unpack.Goals as goal
 
 pub returns : goal.returns

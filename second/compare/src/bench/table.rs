@@ -36,9 +36,9 @@ through both tables. Compared are the certificate and the same with its last ran
 where every rank must be 0, with another last signal; lookups are those of both. Twice judge: the library's own
 verdicts on the two. Ratios: library over the other.
 
-                                processor time, ns              ns per lookup     another method: blocks
-                                                                                  of cells at once (fast)
-call    certificate     lookups     library        peer   ratio   library     peer          ns   ratio";
+                               processor time, ns              ns per lookup     another method: blocks
+                                                                                 of cells at once (fast)
+call   certificate     lookups     library        peer   ratio   library     peer          ns   ratio";
 }
 
 impl fmt::Display for Row {
@@ -50,9 +50,8 @@ impl fmt::Display for Row {
         let ratio = |other: f64| self.library / other;
         write!(
             out,
-            "{:<7} {:<13} {lookups:>9} {:>11.0} {:>11.0} {:>7.2}",
-            self.call,
-            self.certificate,
+            "{:<20} {lookups:>9} {:>11.0} {:>11.0} {:>7.2}",
+            format!("{:<6} {}", self.call, self.certificate),
             self.library,
             self.peer,
             ratio(self.peer)
