@@ -1,5 +1,4 @@
 -- `answer_words::display_word` meets its contract.
-use borrow.Author.Rules.{rules}
 use native.Mathlib.Omega.{arith}
 use Rattle.answer_words.specs.Words.{display_word}
 use Rattle.answer_words.proofs.display_word.Goals as goal

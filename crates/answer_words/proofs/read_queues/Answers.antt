@@ -1,13 +1,11 @@
-use Prim.Native.Nat.{◌*◌, ◌-◌, ◌/◌, ◌≤◌}
+use Prim.Native.Nat.{◌/◌}
 use mathlib.Core.Path.{◌≡◌, refl, sym}
 use native.Mathlib.Omega.{arith}
 use borrow.Author.Count.{below_none}
 use borrow.Author.Rules.{rules}
 use lib.ListN.{length}
 use Rattle.certificate.specs.Layout.{max_links}
-use Rattle.octets.proofs.FilledTables.{Filled, filled_more}
-use Rattle.packed_state.specs.State.{quad_at}
-use Rattle.answer_words.specs.Words.{queue_size}
+use Rattle.octets.proofs.FilledTables.{filled_more}
 use Rattle.answer_words.proofs.Queuing.{no_queues, too_many, not-whole, queues_read}
 use Rattle.answer_words.proofs.read_queues.Goals as goal
 

@@ -1,7 +1,6 @@
 -- `answer_words::verdict_word` meets its contract.
 use native.Mathlib.Omega.{arith}
 use Rattle.answer_words.specs.Words.{verdict_word}
-use borrow.Author.Rules.{rules}
 use Rattle.answer_words.proofs.verdict_word.Goals as goal
 
 pub returns : goal.returns
