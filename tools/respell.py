@@ -13,7 +13,7 @@ import sys
 
 HERE = os.path.dirname(os.path.realpath(__file__))
 TOKEN = re.compile(r"\"(?:[^\"\\]|\\.)*\"|[^\s(){}.;,@\"«»\[\]\\`]+")
-# fields of this name stand in two crates; everywhere else it is a function's
+# fields of this name are spoken of in three crates; everywhere else it is a function's
 FIELDS = {"passes_on": "passes_on_fact"}
 HOMES = ("certificate", "controller", "runs")
 
