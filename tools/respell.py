@@ -4,7 +4,8 @@
 respelled.tsv, beside this file, has a line for each name: the old spelling, a tab, the new one. Definitions in camel case become snake case
 (firstFrom, first_from), and so do lemmas and fields of records that joined plain words by a dash (entries-start, entries_start); a dash stays
 between two names (drop-replicate). A lemma that would have a definition's name ends in _lem, a field in _fact. Names of functions, programs, strings
-and C names stay. 
+and C names stay.
+
 The definition `result` is report_with, since a clause's `result` is what the function returned; the clauses that port.py left under a λ for its
 sake are written out. It is run once, after the kit's port.py: a second run would take names for old ones."""
 import os

@@ -9,7 +9,7 @@ pub gross_arriving : (N : Network) (limit : ℕ → ℕ) (D : ℕ) (x a : ℕ �
 unfolding gross
 gross_arriving N limit D x a l = omega arith
 
--- lowEnd and high_end are such next queues, at their corners
+-- low_end and high_end are such next queues, at their corners
 pub end_arriving : (N : Network) (limit x a : ℕ → ℕ) (l before arrivals : ℕ) → before ≡ gross N limit 1 x (λ _. 0) l → arrivals ≡ a l
     → min (10000 * N.cap l) (before + 10000 * arrivals) ≡ next N limit 1 x a l
 unfolding next
