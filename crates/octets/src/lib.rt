@@ -9,6 +9,8 @@ ghost use Rattle.octets.specs.Bounds.{offset_bound};
 pub mod filling;
 pub mod numbers;
 
+pub mod refusals;
+
 use certificate::Report;
 
 // The byte at an offset, 0 past the end.
