@@ -2,11 +2,33 @@
 // `start` is where the records of boxes begin.
 ghost use Rattle.std.specs.Prelude.{◌≡◌, ◌+◌, ◌*◌, ◌<◌, ◌≤◌, length};
 ghost use Rattle.certificate.specs.Checks.{first_bad};
-ghost use Rattle.certificate.specs.Layout.{max_links, links_of, arrivals_start, arrival_size, low_of, high_of};
+ghost use Rattle.certificate.specs.Layout.{max_links, links_of, arrivals_start, arrival_size, arrival_at, low_of, high_of};
 ghost use Rattle.certificate.specs.Records.{range_ok, range_fault, arrival_fault};
 ghost use Rattle.octets.specs.Bounds.{start_bound};
 
 use certificate::{Report, limits};
+
+// The records of arrival boxes of a certificate: where they begin, and of how many links each is.
+#[derive(Clone, Copy)]
+pub struct Arrivals<'a> {
+    pub bytes: &'a [u8],
+    pub start: usize,
+    pub links: usize,
+    ghost placed: { start ≡ arrivals_start bytes.now },
+    ghost low: { start ≤ start_bound },
+    ghost counted: { links ≡ links_of bytes.now },
+    ghost few: { links ≤ max_links },
+}
+
+impl<'a> Arrivals<'a> {
+    // Where the record of box b stands.
+    pub fn record_at(&self, b: usize) -> usize
+        requires { b < 256 }
+        ensures { (result ≡ arrival_at self.now.bytes.now b) × (result ≤ 120000) }
+    {
+        self.start + (2 + 4 * self.links) * b
+    }
+}
 
 // Where the record of box b stands.
 pub fn arrival_at(start: usize, links: usize, b: usize) -> usize

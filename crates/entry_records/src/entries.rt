@@ -7,6 +7,68 @@ ghost use Rattle.octets.specs.Bounds.{start_bound};
 
 use certificate::{BenchEntry, CabinetEntry, limits};
 
+// The records of entries of a certificate: where they begin.
+#[derive(Clone, Copy)]
+pub struct Entries<'a> {
+    pub bytes: &'a [u8],
+    pub start: usize,
+    ghost placed: { start ≡ entries_start bytes.now },
+    ghost low: { start ≤ start_bound },
+}
+
+impl<'a> Entries<'a> {
+    pub fn cell_of(&self, e: usize) -> usize
+        requires { e < 65536 }
+        ensures { (result ≡ cell_of self.now.bytes.now e) × (result < 65536) }
+    {
+        cell_of(self.bytes, self.start, e)
+    }
+
+    pub fn mode_of(&self, e: usize) -> usize
+        requires { e < 65536 }
+        ensures { (result ≡ mode_of self.now.bytes.now e) × (result < 256) }
+    {
+        mode_of(self.bytes, self.start, e)
+    }
+
+    pub fn signal_of(&self, e: usize) -> usize
+        requires { e < 65536 }
+        ensures { (result ≡ signal_of self.now.bytes.now e) × (result < 256) }
+    {
+        signal_of(self.bytes, self.start, e)
+    }
+
+    pub fn next_mode_of(&self, e: usize) -> usize
+        requires { e < 65536 }
+        ensures { (result ≡ next_mode_of self.now.bytes.now e) × (result < 256) }
+    {
+        next_mode_of(self.bytes, self.start, e)
+    }
+
+    pub fn rank_of(&self, e: usize) -> usize
+        requires { e < 65536 }
+        ensures { (result ≡ rank_of self.now.bytes.now e) × (result < 65536) }
+    {
+        rank_of(self.bytes, self.start, e)
+    }
+
+    // The cabinet's reading of entry e: all but its rank.
+    pub fn cabinet_entry(&self, e: usize) -> CabinetEntry
+        requires { e < 65536 }
+        ensures { (result ≡ cabinet_entry_of self.now.bytes.now e) × (result.cell < 65536) × (result.mode < 256) × (result.signal < 256) × (result.next_mode < 256) }
+    {
+        cabinet_entry(self.bytes, self.start, e)
+    }
+
+    // The bench's: the rank as well.
+    pub fn bench_entry(&self, e: usize) -> BenchEntry
+        requires { e < 65536 }
+        ensures { (result ≡ bench_entry_of self.now.bytes.now e) × (result.shown.cell < 65536) × (result.shown.mode < 256) × (result.shown.signal < 256) × (result.shown.next_mode < 256) × (result.rank < 65536) }
+    {
+        bench_entry(self.bytes, self.start, e)
+    }
+}
+
 // Where the record of entry e stands.
 pub fn entry_at(start: usize, e: usize) -> usize
     requires { (e < 65536) × (start ≤ start_bound) }

@@ -27,6 +27,19 @@ module _ (s : List ℕ) {place : Place} (P : Placed s place) (m : ℕ) {o : ℕ}
   unfolding goal_for
   goal_here l e h = h ∙ rw (e, mode_here)
 
+module _ (s : List ℕ) (m : ℕ) {o : ℕ} (here : o ≡ mode_at s m) where
+  pub shown_held : {r : ℕ} → remembers s ≡ true → r ≡ byte_at s (o + 2) → r ≡ shown_before s m
+  unfolding shown_before
+  shown_held e h = h ∙ rw (e, here)
+
+  pub number_held : {r : ℕ} → takes_turns s ≡ true → r ≡ byte_at s (o + 3) → r ≡ goal_number_of s m
+  unfolding goal_number_of
+  number_held e h = h ∙ rw (e, here)
+
+  pub goal_held : (l : ℕ) {r : ℕ} → takes_turns s ≡ true → r ≡ u16_at s (o + (4 + 2 * l)) → r ≡ goal_for s m l
+  unfolding goal_for
+  goal_held l e h = h ∙ rw (e, here)
+
 -- the greatest so far, with one number more
 pub greatest_none : (f : ℕ → ℕ) → 0 ≡ greatest_to 0 f
 unfolding greatest_to

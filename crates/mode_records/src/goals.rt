@@ -6,6 +6,23 @@ ghost use Rattle.mode_records.specs.Placed.{Placed};
 use crate::modes;
 use octets::numbers;
 
+impl modes::Modes<'_> {
+    pub fn goal_number(&self, m: usize) -> usize
+        requires { (m < 256) × (takes_turns self.now.bytes.now ≡ true) }
+        ensures { (result ≡ goal_number_of self.now.bytes.now m) × (result < 256) }
+    {
+        octets::byte_at(self.bytes, self.record_at(m) + 3)
+    }
+
+    // The goal of mode m on link l.
+    pub fn goal_for(&self, m: usize, l: usize) -> usize
+        requires { (m < 256) × (l < 256) × (takes_turns self.now.bytes.now ≡ true) }
+        ensures { (result ≡ goal_for self.now.bytes.now m l) × (result < 65536) }
+    {
+        octets::u16_at(self.bytes, self.record_at(m) + (4 + 2 * l))
+    }
+}
+
 pub fn goal_number(s: &[u8], place: modes::Place, m: usize) -> usize
     requires { (m < 256) × Placed s.now place × (takes_turns s.now ≡ true) }
     ensures { (result ≡ goal_number_of s.now m) × (result < 256) }

@@ -1,6 +1,6 @@
 // MD: one record a mode of an H2 or H3 certificate, the signal shown before and in H3 its goals; HD has none.
 ghost use Rattle.std.specs.Prelude.{true, ◌≡◌, ◌+◌, ◌*◌, ◌<◌, ◌≤◌};
-ghost use Rattle.certificate.specs.Layout.{remembers, modes_of, mode_records_of, modes_start, mode_size, shown_before};
+ghost use Rattle.certificate.specs.Layout.{remembers, modes_of, mode_records_of, modes_start, mode_size, mode_at, shown_before};
 ghost use Rattle.mode_records.specs.Placed.{Placed, size_bound};
 ghost use Rattle.octets.specs.Bounds.{start_bound};
 
@@ -11,6 +11,36 @@ use certificate::limits;
 pub struct Place {
     pub start: usize,
     pub size: usize,
+}
+
+// The records of modes of a certificate: where they begin, and the size of each.
+#[derive(Clone, Copy)]
+pub struct Modes<'a> {
+    pub bytes: &'a [u8],
+    pub start: usize,
+    pub size: usize,
+    ghost placed: { start ≡ modes_start bytes.now },
+    ghost low: { start ≤ start_bound },
+    ghost sized: { size ≡ mode_size bytes.now },
+    ghost small: { size ≤ size_bound },
+}
+
+impl<'a> Modes<'a> {
+    // Where the record of mode m stands.
+    pub fn record_at(&self, m: usize) -> usize
+        requires { m < 256 }
+        ensures { (result ≡ mode_at self.now.bytes.now m) × (result ≤ 300000) }
+    {
+        self.start + self.size * m
+    }
+
+    // The signal that mode m remembers, where modes do.
+    pub fn shown_before(&self, m: usize) -> usize
+        requires { (m < 256) × (remembers self.now.bytes.now ≡ true) }
+        ensures { (result ≡ shown_before self.now.bytes.now m) × (result < 256) }
+    {
+        octets::byte_at(self.bytes, self.record_at(m) + 2)
+    }
 }
 
 // The size of a record; in H3 it has mark, signal, goal number, and a goal a link.

@@ -8,6 +8,24 @@ ghost use Rattle.octets.specs.Bounds.{start_bound};
 
 use certificate::{Report, limits};
 
+// The records of signals of a certificate: where they begin.
+#[derive(Clone, Copy)]
+pub struct Signals<'a> {
+    pub bytes: &'a [u8],
+    pub start: usize,
+    ghost placed: { start ≡ signals_start bytes.now },
+    ghost low: { start ≤ start_bound },
+}
+
+impl<'a> Signals<'a> {
+    pub fn green_byte_of(&self, g: usize) -> usize
+        requires { g < 256 }
+        ensures { (result ≡ green_byte_of self.now.bytes.now g) × (result < 256) }
+    {
+        green_byte_of(self.bytes, self.start, g)
+    }
+}
+
 // Where the record of signal g stands.
 pub fn signal_at(start: usize, g: usize) -> usize
     requires { (g < 256) × (start ≤ start_bound) }

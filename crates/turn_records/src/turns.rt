@@ -11,6 +11,67 @@ use crate::pairs;
 use certificate::{Report, limits};
 use road_records::links;
 
+// The records of turns of a certificate: where they begin.
+#[derive(Clone, Copy)]
+pub struct Turns<'a> {
+    pub bytes: &'a [u8],
+    pub start: usize,
+    ghost placed: { start ≡ turns_start bytes.now },
+    ghost low: { start ≤ start_bound },
+}
+
+impl<'a> Turns<'a> {
+    pub fn from_of(&self, t: usize) -> usize
+        requires { t < 256 }
+        ensures { (result ≡ from_of self.now.bytes.now t) × (result < 256) }
+    {
+        from_of(self.bytes, self.start, t)
+    }
+
+    pub fn to_of(&self, t: usize) -> usize
+        requires { t < 256 }
+        ensures { (result ≡ to_of self.now.bytes.now t) × (result < 256) }
+    {
+        to_of(self.bytes, self.start, t)
+    }
+
+    pub fn pull_of(&self, t: usize) -> usize
+        requires { t < 256 }
+        ensures { (result ≡ pull_of self.now.bytes.now t) × (result < 65536) }
+    {
+        pull_of(self.bytes, self.start, t)
+    }
+
+    // The same fields of a turn that is there whole: no test.
+    pub fn from_within(&self, t: usize) -> usize
+        requires { (t < 256) × (turn_at self.now.bytes.now t + turn_size ≤ length self.now.bytes.now) }
+        ensures { (result ≡ from_of self.now.bytes.now t) × (result < 256) }
+    {
+        from_within(self.bytes, self.start, t)
+    }
+
+    pub fn to_within(&self, t: usize) -> usize
+        requires { (t < 256) × (turn_at self.now.bytes.now t + turn_size ≤ length self.now.bytes.now) }
+        ensures { (result ≡ to_of self.now.bytes.now t) × (result < 256) }
+    {
+        to_within(self.bytes, self.start, t)
+    }
+
+    pub fn share_within(&self, t: usize) -> usize
+        requires { (t < 256) × (turn_at self.now.bytes.now t + turn_size ≤ length self.now.bytes.now) }
+        ensures { (result ≡ share_of self.now.bytes.now t) × (result < 256) }
+    {
+        share_within(self.bytes, self.start, t)
+    }
+
+    pub fn pull_within(&self, t: usize) -> usize
+        requires { (t < 256) × (turn_at self.now.bytes.now t + turn_size ≤ length self.now.bytes.now) }
+        ensures { (result ≡ pull_of self.now.bytes.now t) × (result < 65536) }
+    {
+        pull_within(self.bytes, self.start, t)
+    }
+}
+
 // Where the record of turn t stands.
 pub fn turn_at(start: usize, t: usize) -> usize
     requires { (t < 256) × (start ≤ start_bound) }
