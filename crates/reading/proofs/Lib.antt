@@ -1,2 +1,3 @@
 -- The stages of reading, put together.
 pub mod Stages
+pub mod Whole

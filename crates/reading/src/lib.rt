@@ -10,6 +10,8 @@ ghost use Rattle.box_records.specs.GridRecords.{GridsLaid};
 ghost use Rattle.reading.specs.ReadingResults.{StartsOf, LaidOut, ReadAs, network_fault, tail_fault, back_fault, no_layout};
 ghost use Rattle.octets.specs.Bounds.{entry_bound};
 
+mod fields;
+
 use box_records::{arrivals, grids};
 use certificate::{Report, limits};
 use entry_records::entries;
@@ -42,6 +44,15 @@ pub struct Layout {
 pub struct Reading {
     pub report: Report,
     pub layout: Layout,
+}
+
+// A certificate that reading passes, and where its records stand.
+#[derive(Clone, Copy)]
+pub struct Certificate<'a> {
+    pub bytes: &'a [u8],
+    pub layout: Layout,
+    ghost readable: { (reading_of bytes.now).number ≡ 0 },
+    ghost laid: { LaidOut bytes.now layout },
 }
 
 // ZZ: nothing follows.
