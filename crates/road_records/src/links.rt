@@ -52,7 +52,7 @@ fn link_u16(s: &[u8], l: usize, k: usize) -> usize
     octets::u16_at(s, link_at(s, l) + k)
 }
 
-// The same where the link is there whole, for speed without a test: a call of one from the other would bring the test back.
+// The same where the link is there whole: no test, for speed (a byte past the end reads as 0, so no one test would let those above call these).
 fn link_byte_within(s: &[u8], l: usize, k: usize) -> usize
     requires { (l < 256) × (k < plain_link_size) × (link_at s.now l + link_size s.now ≤ length s.now) }
     ensures { (result ≡ byte_at s.now (link_at s.now l + k)) × (result < 256) }
