@@ -16,8 +16,7 @@ const GOALS_KIND: usize = 51;
 pub fn has_memory(s: &[u8]) -> bool
     ensures { result ≡ remembers s.now }
 {
-    let kind = octets::byte_at(s, 1);
-    (kind == START_FLOW_KIND) | (kind == GOALS_KIND)
+    2 <= s.len() && has_memory_within(s)
 }
 
 // The same where there are two bytes at least: no test.
