@@ -1,7 +1,7 @@
--- `box_records::arrivals::range_ok` meets its contract.
+-- `box_records::arrivals::Arrivals::range_ok` meets its contract.
 use Rattle.certificate.specs.Octets.{◌also◌}
 use Rattle.certificate.specs.Records.{range_ok}
-use Rattle.box_records.proofs.arrivals.range_ok.Goals as goal
+use Rattle.box_records.proofs.arrivals.Arrivals.range_ok.Goals as goal
 
 pub returns : goal.returns
 unfolding range_ok ◌also◌
