@@ -12,8 +12,8 @@ fn goals_safe(modes: &Modes<'_>, m: usize) -> bool
     requires { (m < 256) × (takes_turns modes.now.bytes.now ≡ true) }
     ensures { result ≡ goals_safe modes.now.bytes.now m }
 {
-    (0..header_record::links_of(modes.bytes)).all(|l| modes.goal_for(m, l)
-        <= links::safe_of(modes.bytes, l))
+    let links = header_record::links_of(modes.bytes);
+    (0..links).all(|l| modes.goal_for(m, l) <= links::safe_of(modes.bytes, l))
 }
 
 // Modes k and m have equal goals.
@@ -21,7 +21,8 @@ fn same_goals(modes: &Modes<'_>, k: usize, m: usize) -> bool
     requires { (k < 256) × (m < 256) × (takes_turns modes.now.bytes.now ≡ true) }
     ensures { result ≡ same_goals modes.now.bytes.now k m }
 {
-    (0..header_record::links_of(modes.bytes)).all(|l| modes.goal_for(k, l) == modes.goal_for(m, l))
+    let links = header_record::links_of(modes.bytes);
+    (0..links).all(|l| modes.goal_for(k, l) == modes.goal_for(m, l))
 }
 
 // Mode m has the goals of mode k, if it has its goal number.
