@@ -117,7 +117,7 @@ module _ (s : List ℕ) where
   unfolding arrivals_start entries_start
   laid_out {places = places} {stop = stop} {links = links} {boxes = boxes} H S L el et es em eb ee ef z few_bytes =
       let few : links ≤ 8 = omega (arith, H.links_most) in
-      let far : arrival_size links * boxes ≤ 8704 = box_offset links boxes few (omega (arith, H.boxes_most)) in
+      let far : arrival_size (links_of s) * boxes ≤ 8704 = box_offset (links_of s) boxes H.links_most (omega (arith, H.boxes_most)) in
       record {
         is = rw (ef, el, et, es, em, eb, ee, S.turns_is, S.signals_is, S.modes_is, z, L.end_is, L.cells_are, places_are L);
         links_are = el;
@@ -149,8 +149,8 @@ module _ (s : List ℕ) where
         grid_most = λ l lt. omega (arith, grid_end s l lt, L.end_is, L.end_most);
         arrivals_start_is = L.end_is;
         arrivals_start_most = omega (arith, L.end_most);
-        entries_start_is = rw (ef, L.end_is, el, eb);
-        entries_start_most = omega (arith, L.end_most);
+        entries_start_is = rw (ef, eb);
+        entries_start_most = omega (arith, L.end_is, L.end_most, H.links_most);
         cells_are = L.cells_are;
         cells_least = L.cells_least;
         cells_most = L.cells_most;
