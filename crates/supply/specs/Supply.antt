@@ -4,6 +4,7 @@ use Rattle.certificate.specs.Loops.{pick, find}
 use Rattle.certificate.specs.Layout.{max_cap, max_links, max_turns, links_of, turns_of, cap_of, from_of, to_of, pull_of}
 use Rattle.network.specs.Flow.{least_to}
 use Rattle.supply.specs.declared.QueueBox.{QueueBox}
+use Rattle.supply.specs.declared.SideSupplies.{SideSupplies}
 use Rattle.supply.specs.declared.Two.{Two}
 
 -- element k of an array
@@ -34,11 +35,11 @@ pub record TwoLeast (f : ℕ → ℕ) (from end : ℕ) (two : Two) : Type 0 wher
   pub ordered : (two.least ≤ two.next) × (two.next ≤ most_sent)
   pub others_is : (t : ℕ) → from ≤ t → t < end → pick (eqb (f t) two.least) two.next two.least ≡ least_to end (leb from) (λ u. pick (eqb u t) most_sent (f u)) most_sent
 
--- rooms has the supply of each turn from `from` up to `end` where the queues are x, and two the two least of them
-pub record Supplies (s : List ℕ) (x : ℕ → ℕ) (from end : ℕ) (rooms : List ℕ) (two : Two) : Type 0 where
-  pub long : length rooms ≡ max_turns
-  pub room : (t : ℕ) → from ≤ t → t < end → at rooms t ≡ supply_at s x t
-  pub two_least : TwoLeast (supply_at s x) from end two
+-- found has the supply of each turn from `from` up to `end` where the queues are x, and the two least of them
+pub record Supplies (s : List ℕ) (x : ℕ → ℕ) (from end : ℕ) (found : SideSupplies) : Type 0 where
+  pub long : length found.of_turn ≡ max_turns
+  pub room : (t : ℕ) → from ≤ t → t < end → at found.of_turn t ≡ supply_at s x t
+  pub two_least : TwoLeast (supply_at s x) from end found.two
 
 -- what the link of turns from .. end sends by these supplies, at most `most`, with turn t's supply of near and the others' of far
 abbrev pub sent_by : (ℕ → ℕ) → (ℕ → ℕ) → ℕ → ℕ → ℕ → ℕ → ℕ

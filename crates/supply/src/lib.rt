@@ -62,6 +62,21 @@ impl Two {
     }
 }
 
+// The supplies of a link's turns at one side of a box, turn by turn, and the two least of them.
+#[derive(Clone, Copy)]
+pub struct SideSupplies {
+    pub of_turn: [usize; limits::MAX_TURNS],
+    pub two: Two,
+}
+
+impl SideSupplies {
+    // Of no turn yet.
+    pub const NONE: SideSupplies = SideSupplies {
+        of_turn: [0; limits::MAX_TURNS],
+        two: Two::NONE,
+    };
+}
+
 // The first turn from link j or a later one, and the number of turns where there is none.
 fn first_turn(certificate: &Certificate<'_>, j: usize) -> usize
     ensures { result ≡ find (turns_of certificate.now.bytes.now) (λ t. leb j (from_of certificate.now.bytes.now t)) }
@@ -101,28 +116,26 @@ fn rooms_of(certificate: &Certificate<'_>, t: usize, queues: &QueueBox) -> BySid
     }
 }
 
-// The supplies of the turns from..end, into `by_turn`, and the two least of them.
+// The supplies of the turns from..end at the two sides of a box, into `found`.
 pub fn supplies(
     certificate: &Certificate<'_>,
     from: usize,
     end: usize,
     queues: &QueueBox,
-    by_turn: &mut BySide<[usize; limits::MAX_TURNS]>,
-) -> BySide<Two>
+    found: &mut BySide<SideSupplies>,
+)
     requires { (from ≤ end) × (end ≤ turns_of certificate.now.bytes.now) × WithinCaps certificate.now.bytes.now queues.now }
-    ensures lower { Supplies certificate.now.bytes.now (at queues.now.lower) from end by_turn.new.lower result.lower }
-    ensures upper { Supplies certificate.now.bytes.now (at queues.now.upper) from end by_turn.new.upper result.upper }
+    ensures { Supplies certificate.now.bytes.now (at queues.now.lower) from end found.new.lower × Supplies certificate.now.bytes.now (at queues.now.upper) from end found.new.upper }
 {
-    let mut least = BySide {
-        lower: Two::NONE,
-        upper: Two::NONE,
-    };
+    let mut lower = Two::NONE;
+    let mut upper = Two::NONE;
     for t in from..end {
         let rooms = rooms_of(certificate, t, queues);
-        by_turn.lower[t] = rooms.lower;
-        by_turn.upper[t] = rooms.upper;
-        least.lower = least.lower.with(rooms.lower);
-        least.upper = least.upper.with(rooms.upper);
+        found.lower.of_turn[t] = rooms.lower;
+        found.upper.of_turn[t] = rooms.upper;
+        lower = lower.with(rooms.lower);
+        upper = upper.with(rooms.upper);
     }
-    least
+    found.lower.two = lower;
+    found.upper.two = upper;
 }

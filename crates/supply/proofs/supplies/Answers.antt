@@ -10,6 +10,6 @@ pub loop-t-preserved : goal.loop-t-preserved
 loop-t-preserved c =
     let inv = c.loop-t.invariant in
     let rooms = c.rooms_of-rooms.ensures in (
-      supplies_more _ _ _ _ _ _ _ _ inv.0 (omega arith) (omega (arith, turns_most c.args.certificate.now)) rooms.0 c.with-least.ensures,
-      supplies_more _ _ _ _ _ _ _ _ inv.1 (omega arith) (omega (arith, turns_most c.args.certificate.now)) rooms.1 c.with-least-in-loop-t.ensures,
+      supplies_more _ _ _ _ _ _ _ _ inv.0 (omega arith) (omega (arith, turns_most c.args.certificate.now)) rooms.0 c.with-lower.ensures,
+      supplies_more _ _ _ _ _ _ _ _ inv.1 (omega arith) (omega (arith, turns_most c.args.certificate.now)) rooms.1 c.with-upper.ensures,
     )
