@@ -1,4 +1,2 @@
 -- Pull sums by one pass over the turns, and the tests before 12 put together.
-pub mod Bounds
-pub mod Screens
 pub mod Summing
