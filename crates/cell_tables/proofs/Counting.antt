@@ -106,10 +106,6 @@ module _ (s : List ℕ) (R : Readable s) (c : ℕ) where
         carry = rw z;
       }
 
-  -- at the end every link is done
-  pub count_end : (l : ℕ) (a : List ℕ) → l ≡ 0 → Counted s c l a → Row s (c + 1) a
-  count_end l a e h = (h.size, λ k lt. h.done k (omega arith) lt)
-
   -- at the last link that is to do, which goes up by one, or is 0 again
   module _ (l : ℕ) (a : List ℕ) (h : Counted s c (suc l) a) where
     -- the link is there, and its interval is what is left of the cell's number, modulo its count
