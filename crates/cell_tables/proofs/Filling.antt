@@ -4,8 +4,8 @@ use mathlib.Core.List.{List}
 use mathlib.Core.Path.{◌≡◌, refl, sym, ◌∙◌}
 use native.Mathlib.Numerals.{add-one}
 use native.Mathlib.Omega.{arith}
-use lib.ListN.{length, get_or}
-use Rattle.certificate.specs.Layout.{max_intervals, max_links, max_cells, links_of, cap_of, intervals_of, cut_of, cells_of}
+use lib.ListN.{get_or}
+use Rattle.certificate.specs.Layout.{max_intervals, max_links, links_of, cap_of, intervals_of, cut_of, cells_of}
 use Rattle.certificate.specs.Records.{cut_before}
 use Rattle.certificate.specs.Facts.{Readable}
 use Rattle.grid.specs.Intervals.{lower_edge, upper_edge}
@@ -62,7 +62,7 @@ edges_filled s R a n e h =
 
 -- the table a has the intervals of the cells, as far as they stand before entry n
 abbrev pub FilledTo : List ℕ → ℕ → List ℕ → Type 0
-FilledTo s n a = (length a ≡ max_links * max_cells) × ((c l : ℕ) → l < links_of s → max_links * c + l < n → get_or a (max_links * c + l) 0 ≡ interval_in s c l)
+FilledTo s n a = (c l : ℕ) → l < links_of s → max_links * c + l < n → get_or a (max_links * c + l) 0 ≡ interval_in s c l
 
 -- an interval that is read from the table of cells exists
 pub interval_exists : (s : List ℕ) → Readable s → (digits : List ℕ) → DigitsOf s digits → (c l : ℕ) → c < cells_of s → l < links_of s

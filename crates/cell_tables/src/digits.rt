@@ -1,6 +1,6 @@
 // The interval of each link in each cell, eight a cell, counted up from one cell to the next: the last link counts fastest.
-ghost use Rattle.std.specs.Prelude.{◌≡◌, ◌+◌, ◌*◌, ◌<◌, length};
-ghost use Rattle.certificate.specs.Layout.{max_intervals, max_links, max_cells, links_of, intervals_of, cells_of};
+ghost use Rattle.std.specs.Prelude.{◌≡◌, ◌+◌, ◌*◌, ◌<◌};
+ghost use Rattle.certificate.specs.Layout.{max_intervals, links_of, intervals_of, cells_of};
 ghost use Rattle.grid.specs.Cells.{interval_in};
 ghost use Rattle.octets.specs.Tables.{Holds};
 ghost use Rattle.cell_tables.specs.Tables.{CountsOf, DigitsOf};
@@ -19,8 +19,8 @@ fn count_up(
     cell: usize,
     intervals: &mut [u8; limits::MAX_LINKS],
 )
-    requires { CountsOf certificate.now.bytes.now counts.now × (length intervals.old ≡ max_links) × Holds (links_of certificate.now.bytes.now) (interval_in certificate.now.bytes.now cell) intervals.old }
-    ensures { (length intervals.new ≡ max_links) × Holds (links_of certificate.now.bytes.now) (interval_in certificate.now.bytes.now (cell + 1)) intervals.new }
+    requires { CountsOf certificate.now.bytes.now counts.now × Holds (links_of certificate.now.bytes.now) (interval_in certificate.now.bytes.now cell) intervals.old }
+    ensures { Holds (links_of certificate.now.bytes.now) (interval_in certificate.now.bytes.now (cell + 1)) intervals.new }
 {
     for l in (0..certificate.layout.links).rev() {
         let i = intervals[l] + 1;
@@ -38,7 +38,7 @@ pub fn fill_digits(
     counts: &[usize; limits::MAX_LINKS],
     digits: &mut [u8; DIGITS],
 )
-    requires { CountsOf certificate.now.bytes.now counts.now × (length digits.old ≡ max_links * max_cells) }
+    requires { CountsOf certificate.now.bytes.now counts.now }
     ensures { DigitsOf certificate.now.bytes.now digits.new }
 {
     let mut intervals = [0u8; limits::MAX_LINKS];

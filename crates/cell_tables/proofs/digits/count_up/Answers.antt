@@ -24,7 +24,7 @@ module _ (s counts : List ℕ) (R : Readable s) (C : CountsOf s counts) (cell l 
   is_zero le = count_on s R cell (l - 1) x here (omega (arith, count))
 
 pub loop-l-init : goal.loop-l-init
-loop-l-init c = count_start c.args.certificate.now.bytes.now (reads c.args.certificate.now) c.args.cell _ _ c.args.certificate.now.laid.links_are (c.requires.1, c.requires.2)
+loop-l-init c = count_start c.args.certificate.now.bytes.now (reads c.args.certificate.now) c.args.cell _ _ c.args.certificate.now.laid.links_are c.told-intervals c.requires.1
 
 pub overflow_add-i : goal.overflow_add-i
 overflow_add-i c = omega (arith, small _ _ (reads c.args.certificate.now) c.requires.0 _ _ _ (omega arith) c.loop-l.invariant)

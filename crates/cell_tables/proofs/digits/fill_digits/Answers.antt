@@ -4,4 +4,4 @@ use Rattle.cell_tables.proofs.Counting.{first_row}
 use Rattle.cell_tables.proofs.digits.fill_digits.Goals as goal
 
 pub loop-c-init : goal.loop-c-init
-loop-c-init c = ((c.requires.1, λ d k under z. absurd (omega arith)), first_row c.args.certificate.now.bytes.now (reads c.args.certificate.now))
+loop-c-init c = (λ d k under z. absurd (omega arith), first_row c.args.certificate.now.bytes.now (reads c.args.certificate.now))
