@@ -69,16 +69,13 @@ put_all n l v a f fits below e after k lt = go (ltb k l) refl
 
 -- the table a has the intervals of cell c
 abbrev pub Row : List ℕ → ℕ → List ℕ → Type 0
-Row s c a = (length a ≡ max_links) × Holds (links_of s) (interval_in s c) a
+Row s c a = Holds (links_of s) (interval_in s c) a
 
 -- every interval of cell 0 is 0
 pub first_row : (s : List ℕ) → Readable s → Row s 0 (replicate max_links 0)
 unfolding interval_in prefix_of
-first_row s R = (
-  refl,
-  λ l lt.
-      get_or-replicate {A = ℕ} max_links l 0 0 (omega (arith, R.header.links_most)) ∙ rw (none (links_of s - suc l)) (sym (mod-eq_of_lt (R.grid l lt).count_least)),
-)
+first_row s R l lt =
+    get_or-replicate {A = ℕ} max_links l 0 0 (omega (arith, R.header.links_most)) ∙ rw (none (links_of s - suc l)) (sym (mod-eq_of_lt (R.grid l lt).count_least))
   where
     none : (k : ℕ) → prefix_of s 0 k ≡ 0
     none zero = refl
@@ -94,21 +91,17 @@ pub record Counted (s : List ℕ) (c l : ℕ) (a : List ℕ) : Type 0 where
 
 module _ (s : List ℕ) (R : Readable s) (c : ℕ) where
   -- at the start every link is to do
-  pub count_start : (l : ℕ) (a : List ℕ) → l ≡ links_of s → Row s c a → Counted s c l a
+  pub count_start : (l : ℕ) (a : List ℕ) → l ≡ links_of s → length a ≡ max_links → Row s c a → Counted s c l a
   unfolding prefix_of
-  count_start l a e r =
+  count_start l a e n r =
       let z : links_of s - l ≡ 0 = omega arith in
       record {
-        size = r.0;
+        size = n;
         most = omega arith;
-        to_do = λ k lt. r.1 k (omega arith);
+        to_do = λ k lt. r k (omega arith);
         done = λ k le lt. absurd (omega arith);
         carry = rw z;
       }
-
-  -- at the end every link is done
-  pub count_end : (l : ℕ) (a : List ℕ) → l ≡ 0 → Counted s c l a → Row s (c + 1) a
-  count_end l a e h = (h.size, λ k lt. h.done k (omega arith) lt)
 
   -- at the last link that is to do, which goes up by one, or is 0 again
   module _ (l : ℕ) (a : List ℕ) (h : Counted s c (suc l) a) where
@@ -134,13 +127,11 @@ module _ (s : List ℕ) (R : Readable s) (c : ℕ) where
     unfolding interval_in
     count_stop lt =
         let next = one_more (prefix_of s c (links_of s - suc l)) (intervals_of s l) (omega (arith, here)) in
-        let same : prefix_of s (c + 1) (links_of s - l) ≡ prefix_of s c (links_of s - l) = rw (prefix_before s c l exists, prefix_before s (c + 1) l exists, h.carry) next.0 in (
-          length-set a l _ ∙ h.size,
-          put_all (links_of s) l _ a _ fits
-              (λ k lt. h.to_do k (omega arith) ∙ rw (prefix_later s (c + 1) c (links_of s - l) (links_of s - suc k) same (omega arith)))
-              (rw (h.carry, here) (sym next.1))
-              h.done,
-        )
+        let same : prefix_of s (c + 1) (links_of s - l) ≡ prefix_of s c (links_of s - l) = rw (prefix_before s c l exists, prefix_before s (c + 1) l exists, h.carry) next.0 in
+        put_all (links_of s) l _ a _ fits
+        (λ k lt. h.to_do k (omega arith) ∙ rw (prefix_later s (c + 1) c (links_of s - l) (links_of s - suc k) same (omega arith)))
+        (rw (h.carry, here) (sym next.1))
+        h.done
 
     -- at its last interval it is 0 again, and the link before it is next
     pub count_on : intervals_of s l ≤ get_or a l 0 + 1 → Counted s c l (set a l 0)

@@ -1,14 +1,9 @@
--- Tables made once for a certificate: where its grids stand, their edges and counts, the intervals of each cell.
+-- Tables made once for a certificate: the edges and counts of its grids, the intervals of each cell.
 use Rattle.std.specs.Prelude.{ℕ, zero, suc, ◌+◌, ◌*◌, ◌≤◌, ◌<◌, List, ◌≡◌, get_or}
-use Rattle.certificate.specs.Layout.{max_intervals, max_links, links_of, cap_of, grid_at, intervals_of, cells_of}
-use Rattle.certificate.specs.Facts.{Readable}
+use Rattle.certificate.specs.Layout.{max_intervals, max_links, links_of, cap_of, intervals_of, cells_of}
 use Rattle.grid.specs.Intervals.{lower_edge, upper_edge}
 use Rattle.grid.specs.Cells.{interval_in}
 use Rattle.octets.specs.Tables.{Holds}
-
--- where the grid record of each link starts
-abbrev pub PlacesOf : List ℕ → List ℕ → Type 0
-PlacesOf s a = Holds (links_of s) (grid_at s) a
 
 -- how many intervals each link has
 abbrev pub CountsOf : List ℕ → List ℕ → Type 0
@@ -27,12 +22,6 @@ edge_of s l (suc i) = upper_edge s l i
 pub record EdgesOf (s a : List ℕ) : Type 0 where
   pub lower : (l i : ℕ) → l < links_of s → i < intervals_of s l → get_or a (edge_row * l + i) 0 ≡ lower_edge s l i
   pub upper : (l i : ℕ) → l < links_of s → i < intervals_of s l → get_or a (edge_row * l + i + 1) 0 ≡ upper_edge s l i
-
--- the grid of a readable certificate, as the code has it: how many links, and their counts
-pub record GridOf (s counts : List ℕ) (links : ℕ) : Type 0 where
-  pub readable : Readable s
-  pub count : CountsOf s counts
-  pub link : links ≡ links_of s
 
 -- the interval of each link in each cell, eight a cell
 abbrev pub DigitsOf : List ℕ → List ℕ → Type 0

@@ -1,30 +1,21 @@
 // The cell that holds given queues, each at most cap, over a scale.
-ghost use Rattle.std.specs.Prelude.{◌≡◌, ◌+◌, ◌*◌, ◌-◌, ◌<◌, ◌≤◌, length, get_or, ltb};
-ghost use Rattle.certificate.specs.Loops.{find};
-ghost use Rattle.certificate.specs.Layout.{max_cells, max_scale, links_of, count_at, cut_at, cells_of};
-ghost use Rattle.certificate.specs.Facts.{Readable};
+ghost use Rattle.std.specs.Prelude.{◌≡◌, ◌+◌, ◌*◌, ◌<◌, ◌≤◌, length, get_or};
+ghost use Rattle.certificate.specs.Layout.{max_cells, max_scale, links_of, cells_of};
+ghost use Rattle.grid.specs.Intervals.{interval_at};
 ghost use Rattle.grid.specs.Cells.{cell_at};
-ghost use Rattle.cell_tables.specs.Tables.{PlacesOf, QueuesFit};
-ghost use Rattle.octets.specs.Bounds.{start_bound};
+ghost use Rattle.cell_tables.specs.Tables.{QueuesFit};
 
-use box_records::grids;
-use certificate::limits;
-use octets::numbers;
+use reading::Certificate;
 
-// The interval that holds x over scale, of the link whose grid record starts at o: the first whose upper edge is above x, else the last.
-fn interval_at(s: &[u8], o: usize, scale: usize, x: usize) -> usize
-    requires { (o ≤ start_bound) × (scale ≤ max_scale) }
-    ensures { result ≡ find (count_at s.now o - 1) (λ i. ltb x (scale * cut_at s.now o i)) }
+// The interval of link l that holds x over scale: the first whose upper edge is above x, else the last.
+fn interval_at(certificate: &Certificate<'_>, l: usize, scale: usize, x: usize) -> usize
+    requires { (l < links_of certificate.now.bytes.now) × (scale ≤ max_scale) }
+    ensures { result ≡ interval_at certificate.now.bytes.now l scale x }
 {
-    let count = grids::count_at(s, o);
-    let mut i = 0;
-    while i + 1 < count {
-        if x < scale * grids::cut_at(s, o, i) {
-            return i;
-        }
-        i += 1;
-    }
-    i
+    let last = certificate.intervals_of(l) - 1;
+    (0..last)
+        .find(|&i| x < scale * certificate.cut_of(l, i))
+        .unwrap_or(last)
 }
 
 // The number so far with one link more: times the link's interval count, plus its interval.
@@ -36,22 +27,14 @@ pub fn with_link(cell: usize, count: usize, i: usize) -> usize
 }
 
 // The number of the cell, the last link fastest.
-pub fn cell_at(
-    s: &[u8],
-    places: &[usize; limits::MAX_LINKS],
-    links: usize,
-    queues: &[u32],
-    scale: u32,
-) -> usize
-    requires { Readable s.now × PlacesOf s.now places.now × (links ≡ links_of s.now) × (length queues.now ≡ links) × (scale ≤ max_scale) × QueuesFit s.now scale queues.now }
-    ensures { (result ≡ cell_at s.now scale (λ l. get_or queues.now l 0)) × (result < cells_of s.now) }
+pub fn cell_at(certificate: &Certificate<'_>, queues: &[u32], scale: u32) -> usize
+    requires { (length queues.now ≡ links_of certificate.now.bytes.now) × (scale ≤ max_scale) × QueuesFit certificate.now.bytes.now scale queues.now }
+    ensures { (result ≡ cell_at certificate.now.bytes.now scale (λ l. get_or queues.now l 0)) × (result < cells_of certificate.now.bytes.now) }
 {
-    let unit = numbers::wide_quad(scale);
     let mut cell = 0;
-    for l in 0..links {
-        let o = places[l];
-        let x = numbers::wide_quad(queues[l]);
-        cell = with_link(cell, grids::count_at(s, o), interval_at(s, o, unit, x));
+    for (l, &x) in queues.iter().enumerate() {
+        let i = interval_at(certificate, l, scale as usize, x as usize);
+        cell = with_link(cell, certificate.intervals_of(l), i);
     }
     cell
 }

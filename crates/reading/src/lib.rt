@@ -8,9 +8,8 @@ ghost use Rattle.reading.specs.Layouts.{LaidOut};
 mod fields;
 mod records;
 
-pub use records::read;
-
 use certificate::limits;
+pub use records::read;
 
 // What a readable certificate holds how many of, where its records stand, and how long the records of modes are: in `grids` 0 for a link that there is not.
 #[derive(Clone, Copy)]

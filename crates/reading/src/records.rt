@@ -13,6 +13,7 @@ use crate::{Certificate, Layout};
 use box_records::arrivals::Arrivals;
 use box_records::grids::{self, Grids};
 use certificate::limits;
+use entry_checks::EntryChecks;
 use entry_records::entries::Entries;
 use mode_records::modes::Modes;
 use octets::refusals::{self, Refusal, Refused};
@@ -137,7 +138,18 @@ fn check_tail(s: &[u8], layout: &Layout) -> Result<(), Refused>
         bytes: s,
         start: layout.entries_start,
     };
-    prove!(true);
+    let modes = Modes::of(s, layout.modes_start);
+    let checks = EntryChecks {
+        entries,
+        modes,
+        signal_count: layout.signals,
+        mode_count: layout.modes,
+        cell_count: layout.cells,
+        has_memory: header_record::has_memory(s),
+        in_turn: header_record::takes_turns(s),
+        greatest: modes.greatest_goal(),
+    };
+    checks.check_entries(layout.entries)?;
     check_end(s, entries.record_at(layout.entries))
 }
 

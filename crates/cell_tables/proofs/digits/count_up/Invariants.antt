@@ -3,7 +3,4 @@ use Rattle.cell_tables.proofs.Counting.{Counted}
 use Rattle.cell_tables.proofs.digits.count_up.Given as goal
 
 abbrev pub invariant-loop-l : goal.invariant-loop-l
-invariant-loop-l l = Counted l.s l.cell l.l l.intervals
-
-abbrev pub decreases-loop-l : goal.decreases-loop-l
-decreases-loop-l l = l.l
+invariant-loop-l l = Counted l.certificate.bytes.now l.cell l.l l.intervals

@@ -1,5 +1,5 @@
 -- `cell_tables::queues::cell_at` meets its contract. The loop has the number of the links passed.
-use Prim.Native.Nat.{ℕ, ◌-◌, ◌≤◌}
+use Prim.Native.Nat.{ℕ}
 use mathlib.Core.List.{List}
 use mathlib.Core.Path.{◌≡◌}
 use lib.ListN.{get_or}
@@ -12,7 +12,4 @@ abbrev pub located : List ℕ → ℕ → List ℕ → ℕ → ℕ
 located s D x = placed s (λ _. D) (λ l. get_or x l 0)
 
 abbrev pub invariant-loop-l : goal.invariant-loop-l
-invariant-loop-l l = (l.l ≤ l.links) × (l.cell ≡ number_of l.s (located l.s l.scale l.queues) l.l)
-
-abbrev pub decreases-loop-l : goal.decreases-loop-l
-decreases-loop-l l = l.links - l.l
+invariant-loop-l l = l.cell ≡ number_of l.certificate.bytes.now (located l.certificate.bytes.now l.scale l.queues) l.l

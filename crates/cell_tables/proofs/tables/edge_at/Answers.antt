@@ -7,8 +7,8 @@ pub returns-then-i-eq0 : goal.returns-then-i-eq0
 unfolding edge_of
 returns-then-i-eq0 c = rw c.if-i-eq0.true
 
-pub returns-then-i-count_at : goal.returns-then-i-count_at
-returns-then-i-count_at c = search edge_cut
+pub returns-then-i-intervals_of : goal.returns-then-i-intervals_of
+returns-then-i-intervals_of c = search edge_cut
 
 pub returns : goal.returns
 returns c = search edge_cap

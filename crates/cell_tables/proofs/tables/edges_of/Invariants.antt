@@ -1,11 +1,7 @@
 -- `cell_tables::tables::edges_of` meets its contract. The loop fills the table entry by entry.
-use Prim.Native.Nat.{◌-◌}
 use Rattle.octets.proofs.FilledTables.{Filled}
 use Rattle.cell_tables.proofs.Filling.{edge_entry}
 use Rattle.cell_tables.proofs.tables.edges_of.Given as goal
 
 abbrev pub invariant-loop-k : goal.invariant-loop-k
-invariant-loop-k l = Filled 128 l.k (edge_entry l.s) l.edges
-
-abbrev pub decreases-loop-k : goal.decreases-loop-k
-decreases-loop-k l = l.k-end - l.k
+invariant-loop-k l = Filled 128 l.k (edge_entry l.certificate.bytes.now) l.edges

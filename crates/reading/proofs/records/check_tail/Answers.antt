@@ -15,7 +15,14 @@ pub check_end-requires : goal.check_end-requires
 unfolding end_at
 check_end-requires c = (omega (arith, c.record_at.ensures), c.record_at.ensures.0 ∙ rw c.requires.entries_are)
 
+pub returns-in_err-check_entries : goal.returns-in_err-check_entries
+unfolding tail_fault arrivals_fault entries_fault
+returns-in_err-check_entries c =
+    then_next _ _ _ (as_many _ c.requires.boxes_are c.in_ok-check_all.ensures)
+    (left_first _ _ c.from_residual-in_err-check_entries.ensures.1 _ _ (as_many _ c.requires.entries_are c.in_err-check_entries.ensures))
+
 pub returns : goal.returns
 unfolding tail_fault arrivals_fault entries_fault
 returns c =
-    then_next _ _ _ (as_many _ c.requires.boxes_are c.in_ok-check_all.ensures) ?
+    then_next _ _ _ (as_many _ c.requires.boxes_are c.in_ok-check_all.ensures)
+    (then_next _ _ _ (as_many _ c.requires.entries_are c.in_ok-check_entries.ensures) c.check_end.ensures)
