@@ -1,2 +1,2 @@
--- Pull sums by one pass over the turns, and the tests before 12 put together.
+-- Sums by the link that turns lead to, kept by one pass over the turns.
 pub mod Summing
