@@ -8,9 +8,6 @@ use native.Mathlib.Nat.{eq-or-lt_of_le}
 use native.Mathlib.Omega.{arith}
 use borrow.Author.Tests.{leb-true, leb-false, le-leb, lt-leb, eqb-true, eq-eqb}
 use lib.Dec.{leb}
-use lib.ListN.{length, get_or, set}
-use lib.Seq.{get_or-set_same, get_or-set_other}
-use borrow.Author.Count.{below_more}
 use Rattle.certificate.specs.Loops.{find}
 use Rattle.certificate.specs.Layout.{entries_of, cell_of, mode_of}
 use Rattle.certificate.specs.Facts.{Readable, PairBelow}
@@ -18,6 +15,8 @@ use Rattle.certificate.proofs.Loops.{found, find_least}
 use Rattle.certificate.proofs.Tests.{and_both, both_and}
 use Rattle.judging.specs.Lookup.{is_for, entry_for}
 use Rattle.rank_tables.specs.Index.{entry_from, CellsAscend}
+use Rattle.reading.proofs.Whole.{reads}
+use Rattle.reading.specs.declared.Certificate.{Certificate}
 
 -- a scan that has come to i without passing the first index: that is i, or lies beyond it
 module _ (n : ℕ) (p : ℕ → Bool) (i : ℕ) (before : i ≤ find n p) where
@@ -41,6 +40,9 @@ cells_ascend s r e f le lt = ⊎_elim (λ (q : e ≡ f). rw q (omega arith)) (λ
     below : {a b c d : ℕ} → PairBelow a b c d → a ≤ c
     below (inl h) = omega arith
     below (inr h) = omega arith
+
+pub ascends : (c : Certificate) → CellsAscend c.bytes.now
+ascends c = cells_ascend c.bytes.now (reads c)
 
 -- the first entry at or above cell d: found at e, beyond e, or nowhere
 module _ (s : List ℕ) (d : ℕ) where
@@ -119,9 +121,8 @@ module _ (s : List ℕ) (d m : ℕ) where
       (λ l. omega arith)
       (eq-or-lt_of_le le)
 
-  pub between_end : CellsAscend s → (end e count : ℕ) → end ≡ entry_from s (d + 1) → end ≤ e → e ≤ entry_for s d m
-      → count ≡ entries_of s → count ≡ entry_for s d m
-  between_end ascend end e count w ge le k = k ∙ go (leb (entries_of s) (entry_for s d m)) refl
+  pub between_end : CellsAscend s → (end e : ℕ) → end ≡ entry_from s (d + 1) → end ≤ e → e ≤ entry_for s d m → entries_of s ≡ entry_for s d m
+  between_end ascend end e w ge le = go (leb (entries_of s) (entry_for s d m)) refl
     where
       go : (b : Bool) → leb (entries_of s) (entry_for s d m) ≡ b → entries_of s ≡ entry_for s d m
       go true q = omega (arith, leb-true (entries_of s) (entry_for s d m) q, for_most)
@@ -129,11 +130,3 @@ module _ (s : List ℕ) (d m : ℕ) where
           let lt : entry_for s d m < entries_of s = leb-false _ _ q in
           let same : cell_of s (entry_for s d m) ≡ d = (for_pair lt).0 in
           absurd (omega (arith, from_after s (d + 1) ascend (entry_for s d m) (omega arith) lt))
-
--- one more element stored: what holds of the elements below d holds of those below d + 1
-pub store_more : (xs : List ℕ) (d v : ℕ) (f : ℕ → ℕ) → d < length xs → ((k : ℕ) → k < d → get_or xs k 0 ≡ f k) → v ≡ f d
-    → (k : ℕ) → k < d + 1 → get_or (set xs d v) k 0 ≡ f k
-store_more xs d v f lt below e =
-    below_more (λ k. get_or (set xs d v) k 0 ≡ f k) d
-    (λ k lk. get_or-set_other xs d k v 0 (λ q. omega arith) ∙ below k lk)
-    (get_or-set_same xs d v 0 lt ∙ e)

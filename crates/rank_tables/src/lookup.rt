@@ -1,24 +1,23 @@
 // Looking up the entry of a cell and a mode.
 ghost use Rattle.std.specs.Prelude.{◌≡◌, ℕ, ◌≤◌, ◌<◌};
-ghost use Rattle.certificate.specs.Layout.{max_cells, max_entries, entries_of, cells_of, entries_start};
+ghost use Rattle.std.specs.Option.{IfSome, unwrap_or};
+ghost use Rattle.certificate.specs.Layout.{max_cells, entries_of, cells_of};
 ghost use Rattle.judging.specs.Lookup.{entry_for};
-ghost use Rattle.rank_tables.specs.Index.{entry_from, IsIndex, CellsAscend, CellFrom};
-ghost use Rattle.octets.specs.Bounds.{start_bound};
+ghost use Rattle.rank_tables.specs.Index.{entry_from, CellFrom};
 
-use certificate::limits;
-use entry_records::entries;
-use octets::numbers;
+use crate::index::Index;
+use reading::Certificate;
 
-// The first entry at or above cell d, by bisection; the number of entries where there is none.
-fn first_at(s: &[u8], start: usize, entries: usize, d: usize) -> usize
-    requires { (start ≤ start_bound) × (start ≡ entries_start s.now) × (entries ≤ max_entries) × (entries ≡ entries_of s.now) × CellsAscend s.now }
-    ensures { (result ≡ entry_from s.now d) × (result ≤ entries) }
+// The first entry at or above cell d, by bisection; the number of entries where there is none. By hand, since std's `partition_point` is
+// for slices, and entries are records among bytes.
+fn first_at(certificate: &Certificate<'_>, d: usize) -> usize
+    ensures { (result ≡ entry_from certificate.now.bytes.now d) × (result ≤ entries_of certificate.now.bytes.now) }
 {
     let mut low = 0;
-    let mut high = entries;
+    let mut high = certificate.layout.entries;
     while low < high {
         let middle = (low + high) / 2;
-        if d <= entries::cell_of(s, start, middle) {
+        if d <= certificate.cell_of(middle) {
             high = middle;
         } else {
             low = middle + 1;
@@ -27,44 +26,37 @@ fn first_at(s: &[u8], start: usize, entries: usize, d: usize) -> usize
     low
 }
 
-// The entry of a mode among those of one cell, which stand from first to before end; the number of entries where there is none.
-fn among(s: &[u8], start: usize, entries: usize, first: usize, end: usize, m: usize) -> usize
-    requires { (start ≤ start_bound) × (start ≡ entries_start s.now) × (entries ≤ max_entries) × (entries ≡ entries_of s.now) × CellsAscend s.now × (end ≤ entries) }
-    ensures { (result ≤ entries) × ((d : ℕ) → CellFrom s.now d first end → result ≡ entry_for s.now d m) }
+// The entry of a mode among those of one cell, which stand from first to before end.
+fn among(certificate: &Certificate<'_>, first: usize, end: usize, m: usize) -> Option<usize>
+    requires { end ≤ entries_of certificate.now.bytes.now }
+    ensures { IfSome result (λ e. e < entries_of certificate.now.bytes.now) × ((d : ℕ) → CellFrom certificate.now.bytes.now d first end → unwrap_or result (entries_of certificate.now.bytes.now) ≡ entry_for certificate.now.bytes.now d m) }
 {
-    let mut e = first;
-    while e < end {
-        if entries::mode_of(s, start, e) == m {
-            return e;
+    for e in first..end {
+        if certificate.mode_of(e) == m {
+            return Some(e);
         }
-        e += 1;
     }
-    entries
+    None
 }
 
-// The entry of a cell and a mode, by bisection; the number of entries where there is none.
-pub fn find_entry(s: &[u8], start: usize, entries: usize, cell: usize, mode: usize) -> usize
-    requires { (start ≤ start_bound) × (start ≡ entries_start s.now) × (entries ≤ max_entries) × (entries ≡ entries_of s.now) × CellsAscend s.now × (cell ≤ max_cells) }
-    ensures { (result ≡ entry_for s.now cell mode) × (result ≤ entries) }
+// The entry of a cell and a mode, by bisection.
+pub fn find_entry(certificate: &Certificate<'_>, cell: usize, mode: usize) -> Option<usize>
+    requires { cell ≤ max_cells }
+    ensures { (unwrap_or result (entries_of certificate.now.bytes.now) ≡ entry_for certificate.now.bytes.now cell mode) × IfSome result (λ e. e < entries_of certificate.now.bytes.now) }
 {
-    let first = first_at(s, start, entries, cell);
-    let end = first_at(s, start, entries, cell + 1);
-    among(s, start, entries, first, end, mode)
+    let first = first_at(certificate, cell);
+    let end = first_at(certificate, cell + 1);
+    among(certificate, first, end, mode)
 }
 
-// The same by the index: the entries of a cell stand one after another.
-pub fn lookup(
-    s: &[u8],
-    start: usize,
-    entries: usize,
-    index: &[u16; limits::MAX_CELLS + 1],
-    d: usize,
-    m: usize,
-) -> usize
-    requires { (start ≤ start_bound) × (start ≡ entries_start s.now) × (entries ≤ max_entries) × (entries ≡ entries_of s.now) × CellsAscend s.now × IsIndex s.now index.now × (d < max_cells) × (d < cells_of s.now) }
-    ensures { (result ≡ entry_for s.now d m) × (result ≤ entries) }
-{
-    let end = numbers::wide_pair(index[d + 1]);
-    let first = numbers::wide_pair(index[d]);
-    among(s, start, entries, first, end, m)
+impl<'a> Index<'a> {
+    // The same by the index: the entries of a cell stand one after another.
+    pub fn lookup(&self, d: usize, m: usize) -> Option<usize>
+        requires { d < cells_of self.now.certificate.now.bytes.now }
+        ensures { (unwrap_or result (entries_of self.now.certificate.now.bytes.now) ≡ entry_for self.now.certificate.now.bytes.now d m) × IfSome result (λ e. e < entries_of self.now.certificate.now.bytes.now) }
+    {
+        let first = usize::from(self.first[d]);
+        let end = usize::from(self.first[d + 1]);
+        among(self.certificate, first, end, m)
+    }
 }

@@ -2,8 +2,8 @@
 use Rattle.rank_tables.proofs.Ranking.{rank_absent, rank_listed}
 use Rattle.rank_tables.proofs.ranks.rank_at.Goals as goal
 
-pub returns-then-e-entries : goal.returns-then-e-entries
-returns-then-e-entries c = rank_absent _ _ _ _ _ c.lookup-e.ensures.0 c.requires.3 c.if-e-entries.true
+pub returns-in-Some : goal.returns-in-Some
+returns-in-Some c = rank_listed _ _ _ _ _ c.in-Some.ensures.0 c.in-Some.ensures.1 c.rank_of.ensures.0
 
-pub returns : goal.returns
-returns c = rank_listed _ _ _ _ _ c.lookup-e.ensures.0 c.requires.3 _ c.lookup-e.ensures.1 c.if-e-entries.false c.rank_of.ensures.0
+pub returns-in-None : goal.returns-in-None
+returns-in-None c = rank_absent _ _ _ c.in-None.ensures.0
