@@ -7,6 +7,7 @@ use borrow.Author.Tests.{eqb-true, eqb-false, eq-eqb, ne_eqb, leb-true, le-leb}
 use lib.Dec.{leb, eqb}
 use Rattle.certificate.specs.Loops.{pick}
 use Rattle.network.specs.Flow.{least_to}
+use Rattle.supply.specs.declared.Two.{Two}
 use Rattle.supply.specs.Supply.{TwoLeast, sent_by}
 use Rattle.supply.proofs.LeastNumbers.{least_in, least_same, least_start, least_more}
 use Rattle.network.proofs.Sending.{least_from, least_base, least_at}
@@ -27,45 +28,45 @@ but f t u = pick (eqb u t) 1000000 (f u)
 abbrev mixed : (ℕ → ℕ) → (ℕ → ℕ) → ℕ → ℕ → ℕ
 mixed near far t u = pick (eqb u t) (near u) (far u)
 
-pub two_none : (f : ℕ → ℕ) (from : ℕ) → TwoLeast f from from 1000000 1000000
+pub two_none : (f : ℕ → ℕ) (from : ℕ) → TwoLeast f from from (record { least = 1000000; next = 1000000 })
 two_none f from = record { least_is = least_start from f 1000000; ordered = omega arith; others_is = λ t le lt. absurd (omega arith) }
 
-pub two_more : (f : ℕ → ℕ) (from end least next v least' next' : ℕ) → TwoLeast f from end least next → from ≤ end → v ≡ f end
-    → least' ≡ min v least → next' ≡ min (max v least) next → TwoLeast f from (end + 1) least' next'
-two_more f from end least next v least' next' T le ev el en =
+pub two_more : (f : ℕ → ℕ) (from end v : ℕ) (two more : Two) → TwoLeast f from end two → from ≤ end → v ≡ f end
+    → more.least ≡ min v two.least → more.next ≡ min (max v two.least) two.next → TwoLeast f from (end + 1) more
+two_more f from end v two more T le ev el en =
     record {
-      least_is = least_more from end f 1000000 least v least' T.least_is le ev el;
+      least_is = least_more from end f 1000000 two.least v more.least T.least_is le ev el;
       ordered = omega (arith, T.ordered);
       others_is = λ t ht lt. go t ht lt (eqb end t) refl;
     }
   where
-    more : (t : ℕ) → least_to (end + 1) (leb from) (but f t) 1000000 ≡ min (but f t end) (least_to end (leb from) (but f t) 1000000)
-    more t = least_in end (leb from) (but f t) 1000000 (le-leb from end le)
+    one_more : (t : ℕ) → least_to (end + 1) (leb from) (but f t) 1000000 ≡ min (but f t end) (least_to end (leb from) (but f t) 1000000)
+    one_more t = least_in end (leb from) (but f t) 1000000 (le-leb from end le)
 
     go : (t : ℕ) → from ≤ t → t < end + 1 → (q : Bool) → eqb end t ≡ q
-        → pick (eqb (f t) least') next' least' ≡ least_to (end + 1) (leb from) (but f t) 1000000
+        → pick (eqb (f t) more.least) more.next more.least ≡ least_to (end + 1) (leb from) (but f t) 1000000
     go t ht lt true q =
         let here : end ≡ t = eqb-true _ _ q in
         let new : v ≡ f t = rw (← here) ev in
-        let rest : least_to end (leb from) (but f t) 1000000 ≡ least =
+        let rest : least_to end (leb from) (but f t) 1000000 ≡ two.least =
         least_same end _ _ _ _ _ (λ u lu. refl) (λ u lu p. rw (ne_eqb u t (λ e. omega arith)) refl) ∙ sym T.least_is in
-        let all : least_to (end + 1) (leb from) (but f t) 1000000 ≡ least = more t ∙ rw (q, rest) (omega (arith, T.ordered)) in
-        rw all (chosen (f t) least' next' least (λ e. omega (arith, T.ordered)) (λ e. omega (arith, T.ordered)))
+        let all : least_to (end + 1) (leb from) (but f t) 1000000 ≡ two.least = one_more t ∙ rw (q, rest) (omega (arith, T.ordered)) in
+        rw all (chosen (f t) more.least more.next two.least (λ e. omega (arith, T.ordered)) (λ e. omega (arith, T.ordered)))
     go t ht lt false q =
         let other : end ≡ t → ⊥ = eqb-false _ _ q in
         let before : t < end = omega arith in
-        let all : least_to (end + 1) (leb from) (but f t) 1000000 ≡ min v (pick (eqb (f t) least) next least) = more t ∙ rw (q, ev, T.others_is t ht before) refl in
+        let all : least_to (end + 1) (leb from) (but f t) 1000000 ≡ min v (pick (eqb (f t) two.least) two.next two.least) = one_more t ∙ rw (q, ev, T.others_is t ht before) refl in
         let low : least_to end (leb from) f 1000000 ≤ f t = least_at end (leb from) f 1000000 t before (le-leb from t ht) in
-        let lowest : least ≤ f t = rw T.least_is low in
-        rw all (by (eqb (f t) least) refl lowest)
+        let lowest : two.least ≤ f t = rw T.least_is low in
+        rw all (by (eqb (f t) two.least) refl lowest)
       where
-        by : (q : Bool) → eqb (f t) least ≡ q → least ≤ f t → pick (eqb (f t) least') next' least' ≡ min v (pick q next least)
-        by true e h = let is : f t ≡ least = eqb-true _ _ e in chosen (f t) least' next' (min v next) (λ a. omega (arith, T.ordered)) (λ a. omega (arith, T.ordered))
-        by false e h = let isnt : f t ≡ least → ⊥ = eqb-false _ _ e in chosen (f t) least' next' (min v least) (λ a. omega arith) (λ a. omega arith)
+        by : (q : Bool) → eqb (f t) two.least ≡ q → two.least ≤ f t → pick (eqb (f t) more.least) more.next more.least ≡ min v (pick q two.next two.least)
+        by true e h = let is : f t ≡ two.least = eqb-true _ _ e in chosen (f t) more.least more.next (min v two.next) (λ a. omega (arith, T.ordered)) (λ a. omega (arith, T.ordered))
+        by false e h = let isnt : f t ≡ two.least → ⊥ = eqb-false _ _ e in chosen (f t) more.least more.next (min v two.least) (λ a. omega arith) (λ a. omega arith)
 
 -- numbers that agree have the same two
-pub two_same : (f g : ℕ → ℕ) (from end least next : ℕ) → TwoLeast f from end least next → ((t : ℕ) → from ≤ t → t < end → g t ≡ f t) → TwoLeast g from end least next
-two_same f g from end least next T same =
+pub two_same : (f g : ℕ → ℕ) (from end : ℕ) (two : Two) → TwoLeast f from end two → ((t : ℕ) → from ≤ t → t < end → g t ≡ f t) → TwoLeast g from end two
+two_same f g from end two T same =
     record {
       least_is = T.least_is ∙ sym (least_same end _ _ _ _ _ (λ t lt. refl) (λ t lt p. same t (leb-true _ _ p) lt));
       ordered = T.ordered;
@@ -83,9 +84,9 @@ sent_least near from end least most e h =
     omega (arith, below, above, least_base end (leb from) near most)
 
 -- with turn t's supply of near and the others' of far it sends the least of the one, of the least of the others, and of the most
-pub sent_two : (near far : ℕ → ℕ) (from end least next m most t r : ℕ) → TwoLeast far from end least next → m ≡ most → most ≤ 1000000 → from ≤ t → t < end
-    → r ≡ min (min (near t) (pick (eqb (far t) least) next least)) m → r ≡ sent_by near far from end most t
-sent_two near far from end least next m most t r T em h ht lt er =
+pub sent_two : (near far : ℕ → ℕ) (from end : ℕ) (two : Two) (m most t r : ℕ) → TwoLeast far from end two → m ≡ most → most ≤ 1000000 → from ≤ t → t < end
+    → r ≡ min (min (near t) (pick (eqb (far t) two.least) two.next two.least)) m → r ≡ sent_by near far from end most t
+sent_two near far from end two m most t r T em h ht lt er =
     let all : r ≡ min (min (near t) (least_to end (leb from) (but far t) 1000000)) most = er ∙ rw (T.others_is t ht lt, em) refl in
     omega (arith, below, own, rest, least_base end (leb from) (mixed near far t) most)
   where

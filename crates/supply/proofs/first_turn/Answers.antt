@@ -1,17 +1,19 @@
-use native.Mathlib.Omega.{arith}
-use borrow.Author.Rules.{rules}
-use borrow.Author.Tests.{le-leb, lt-leb}
-use Rattle.supply.proofs.Finding.{find_here, find_on, find_none}
+use Rattle.std.proofs.Common.{◌≡◌, ◌∙◌, ap, arith, rules, tests, leb, true, false}
+use Rattle.std.proofs.lemmas.Iterator.{first_from_Range, serves_from_Range}
+use Rattle.certificate.specs.Loops.{find}
+use Rattle.certificate.specs.Layout.{from_of}
+use Rattle.supply.proofs.Finding.{find_of}
 use Rattle.supply.proofs.first_turn.Goals as goal
 
-pub loop-t-init : goal.loop-t-init
-loop-t-init c = (search rules, cc)
-
-pub returns-then-j-from_of : goal.returns-then-j-from_of
-returns-then-j-from_of c = find_here _ _ _ _ c.loop-t.invariant.1 c.loop-t-test.true (omega (arith, le-leb))
-
-pub loop-t-preserved : goal.loop-t-preserved
-loop-t-preserved c = (search rules, find_on _ _ _ _ c.loop-t.invariant.1 c.loop-t-test.true (omega (arith, lt-leb)))
+pub find-requires : goal.find-requires
+find-requires c = record { can = tt; finite = tt; callable = serves_from_Range (λ x q k. search (rules, tests)) (λ x low high. search (rules, c.args.certificate.now.laid.turns_are)) }
 
 pub returns : goal.returns
-returns c = find_none _ _ _ _ c.loop-t.invariant.1 (omega arith)
+returns c =
+    let s = c.args.certificate.now.bytes.now in
+    c.unwrap_or.ensures
+    ∙ find_of _ _ _
+    (first_from_Range _ _ _ _ (λ i. leb c.args.j (from_of s i) ≡ true) (λ i. leb c.args.j (from_of s i) ≡ false) c.find.ensures.ran
+    (λ x q k. grind (arith, tests))
+    (λ x q k. (search rules, grind (arith, tests))))
+    ∙ ap (λ n. find n (λ t. leb c.args.j (from_of s t))) c.args.certificate.now.laid.turns_are
