@@ -1,12 +1,12 @@
 -- A link sends: something is taken from its own sum, then the turns add to what is left. Assumes nothing.
-use Prim.Native.Nat.{ℕ, ◌+◌, ◌*◌, ◌-◌, ◌≤◌, ◌<◌}
+use Prim.Native.Nat.{ℕ, ◌+◌, ◌-◌, ◌≤◌, ◌<◌}
 use mathlib.Core.List.{List}
 use mathlib.Core.Bool.{Bool, true, false}
 use mathlib.Core.Path.{◌≡◌, refl}
 use native.Mathlib.Omega.{arith}
 use borrow.Author.Tests.{eqb-true, eqb-false}
 use lib.Dec.{eqb}
-use lib.ListN.{length, get_or, set, length-set}
+use lib.ListN.{length, get_or, set}
 use lib.Seq.{get_or-set_same, get_or-set_other}
 use Rattle.certificate.specs.Loops.{pick, sum_to}
 use Rattle.certificate.specs.Layout.{links_of, to_of}
@@ -26,20 +26,10 @@ taken_at xs l k d h le = go (eqb k l) refl
 abbrev pub Passing : List ℕ → (ℕ → ℕ) → ℕ → List ℕ → ℕ → List ℕ → Type 0
 Passing s f from left t sums = Summed (links_of s) (to_of s) f (λ k. sum_to from (into (to_of s) f k)) (λ k. get_or left k 0) 100000000 255000000 t sums
 
-pub passing_none : (s : List ℕ) (f : ℕ → ℕ) (from l d : ℕ) (xs : List ℕ) → links_of s ≤ length xs → l < links_of s → d ≤ get_or xs l 0
-    → ((k : ℕ) → k < links_of s → get_or xs k 0 ≤ 100000000 + from * 255000000) → Passing s f from (set xs l (get_or xs l 0 - d)) from (set xs l (get_or xs l 0 - d))
-passing_none s f from l d xs long h le fits =
-    record {
-      long = simp length-set long;
-      at = λ k hk. refl;
-      fits = λ k hk. omega (arith, taken_at xs l k d (omega arith) le, fits k hk);
-    }
-
 pub passing_done : (s : List ℕ) (f : ℕ → ℕ) (from t end l d e : ℕ) (before after : List ℕ) → Passing s f from (set before l (get_or before l 0 - d)) t after
     → t ≡ end → l < length before → d ≤ get_or before l 0 → d ≡ e → PassedOn s f from end l e before after
 passing_done s f from t end l d e before after P et h le ed =
     record {
-      long = P.long;
       adds = λ k hk. rw (← et, ← ed) (omega (arith, P.at k hk, taken_at before l k d h le));
       most = rw (← et) P.fits;
     }

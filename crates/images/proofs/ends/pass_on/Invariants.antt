@@ -1,5 +1,5 @@
 -- `images::ends::pass_on` meets its contract.
-use Prim.Native.Nat.{◌*◌, ◌-◌, ◌≤◌}
+use Rattle.std.proofs.Common.{◌*◌}
 use Rattle.certificate.specs.Layout.{share_of}
 use Rattle.supply.specs.Supply.{at, sent_by}
 use Rattle.images.proofs.PassingOn.{Passing}
@@ -7,7 +7,5 @@ use Rattle.images.proofs.ends.pass_on.Given as goal
 
 abbrev pub invariant-loop-t : goal.invariant-loop-t
 invariant-loop-t l =
-    (l.from ≤ l.t) × (l.t ≤ l.end) × Passing l.s (λ u. share_of l.s u * sent_by (at l.near) (at l.far) l.from l.end l.most u) l.from l.initial.ends l.t l.ends
-
-abbrev pub decreases-loop-t : goal.decreases-loop-t
-decreases-loop-t l = l.end - l.t
+    let s = l.certificate.bytes.now in
+    Passing s (λ u. share_of s u * sent_by (at l.own.of_turn) (at l.other.of_turn) l.fn.sender.from l.fn.sender.end l.most u) l.fn.sender.from l.initial.ends l.t l.ends
