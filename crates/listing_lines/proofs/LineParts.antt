@@ -39,6 +39,10 @@ pub lines_grow : (s : List ℕ) (e n : ℕ) → e ≤ n → length (entry_lines 
 unfolding entry_lines
 lines_grow s = grows (λ (n : ℕ). length (entry_lines s n)) (λ n. rw length-append (omega arith))
 
+-- a text that is another, and that one's most bytes
+pub within : {l t : List ℕ} {most : ℕ} → l ≡ t → length t ≤ most → (l ≡ t) × (length l ≤ most)
+within e h = (e, rw e h)
+
 -- the most bytes of the lines, whatever is listed
 pub counts_most : (s : List ℕ) → length (counts_line s) ≤ 126
 unfolding counts_line

@@ -1,5 +1,5 @@
 // The lines of a listing, each as its words and numbers.
-ghost use Rattle.std.specs.Prelude.{◌≡◌, ◌≤◌};
+ghost use Rattle.std.specs.Prelude.{◌≡◌, ◌≤◌, length};
 ghost use Rattle.certificate.specs.Layout.{max_entries, entries_start};
 ghost use Rattle.listing_text.specs.Lines.{counts_line, entry_line, accepted_line, refused_line};
 ghost use Rattle.listing_lines.specs.Fields.{line_of};
@@ -10,7 +10,7 @@ use certificate::Report;
 use entry_records::entries;
 
 pub fn counts_line(s: &[u8]) -> [Field; 6]
-    ensures { line_of result ≡ counts_line s.now }
+    ensures { (line_of result ≡ counts_line s.now) × (length (line_of result) ≤ 126) }
 {
     [
         Field(b"links ", header_record::links_of(s) as u32),
@@ -25,7 +25,7 @@ pub fn counts_line(s: &[u8]) -> [Field; 6]
 // `start` is where the records of the entries begin.
 pub fn entry_line(s: &[u8], start: usize, e: usize) -> [Field; 5]
     requires { (e ≤ max_entries) × (start ≤ start_bound) × (start ≡ entries_start s.now) }
-    ensures { line_of result ≡ entry_line s.now e }
+    ensures { (line_of result ≡ entry_line s.now e) × (length (line_of result) ≤ 55) }
 {
     let entry = entries::bench_entry(s, start, e);
     let shown = entry.shown;
@@ -39,13 +39,13 @@ pub fn entry_line(s: &[u8], start: usize, e: usize) -> [Field; 5]
 }
 
 pub fn accepted_line(report: Report, overflows: u32) -> [Field; 2]
-    ensures { line_of result ≡ accepted_line report overflows }
+    ensures { (line_of result ≡ accepted_line report overflows) × (length (line_of result) ≤ 65) }
 {
     [Field(b"accepted ", report.count), Field(b" ", overflows)]
 }
 
 pub fn refused_line(report: Report) -> [Field; 4]
-    ensures { line_of result ≡ refused_line report }
+    ensures { (line_of result ≡ refused_line report) × (length (line_of result) ≤ 65) }
 {
     [
         Field(b"refused ", u32::from(report.number)),

@@ -10,8 +10,5 @@ use Rattle.listing.proofs.render.render_accepted.Goals as goal
 pub returns-then-buffer-size : goal.returns-then-buffer-size
 returns-then-buffer-size c = refuses (omega arith) c.refuse.ensures
 
-pub put_text-requires : goal.put_text-requires
-put_text-requires c = (c.requires, record { fits = omega arith })
-
 pub returns : goal.returns
 returns c = sends (omega arith) refl refl c.put_text.ensures (search rules) (c.report.ensures ∙ ap (λ (n : ℕ). report_with 0 n 0 0) c.text_length-size.ensures.0)

@@ -15,12 +15,7 @@ pub put_line-requires : goal.put_line-requires
 put_line-requires c =
     let s = c.args.s.now in
     let e = c.loop-e.e in
-    rw c.entry_line.ensures (room_left c.loop-e.invariant _ (entry_lines s c.args.n) (omega (arith, length_more s e, lines_grow s (e + 1) c.args.n (omega arith))) c.requires.3)
+    rw c.entry_line.ensures.0 (room_left c.loop-e.invariant _ (entry_lines s c.args.n) (omega (arith, length_more s e, lines_grow s (e + 1) c.args.n (omega arith))) c.requires.3)
 
 pub loop-e-preserved : goal.loop-e-preserved
-loop-e-preserved c = rw lines_more (then c.loop-e.invariant (omega (arith, c.requires.3.fits)) (rw c.entry_line.ensures at c.put_line.ensures))
-
-pub returns : goal.returns
-returns c =
-    let all : c.loop-e.e ≡ c.args.n = omega arith in
-    rw (← all) c.loop-e.invariant
+loop-e-preserved c = rw lines_more (then c.loop-e.invariant (omega (arith, c.requires.3.fits)) (rw c.entry_line.ensures.0 at c.put_line.ensures))

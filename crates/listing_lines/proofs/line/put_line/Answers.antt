@@ -4,9 +4,6 @@ use Rattle.listing_lines.proofs.LineParts.{line_step, line_end}
 use Rattle.listing_lines.proofs.line.put_line.Goals.{In-loop-word}
 use Rattle.listing_lines.proofs.line.put_line.Goals as goal
 
-pub loop-word-init : goal.loop-word-init
-loop-word-init c = rest_start _ _ c.requires
-
 pub put_word-requires : goal.put_word-requires
 put_word-requires c = room_first c.loop-word.writer _ (rw (line_step c.args.fields.now c.loop-word.word-index (omega arith)) at c.loop-word.invariant.room)
 

@@ -8,20 +8,6 @@ use Rattle.text.proofs.Digits.{digit_stored, tenth_left}
 use Rattle.text.proofs.Placing.{written_none}
 use Rattle.text.proofs.Writer.put_decimal.Goals as goal
 
-pub loop-i-init : goal.loop-i-init
-loop-i-init c =
-    let at = c.args.self.now.at in
-    let all : at + c.decimal_length.result - at ≡ length (decimal c.args.n) = omega arith in
-    record {
-      same_buffer = refl;
-      same_length = refl;
-      same_place = refl;
-      ten_digits = omega arith;
-      from_place = omega arith;
-      digits_left = λ _. omega arith;
-      bytes = rw (all, take-length);
-    }
-
 pub loop-i-preserved : goal.loop-i-preserved
 loop-i-preserved c =
     let l = c.loop-i in
