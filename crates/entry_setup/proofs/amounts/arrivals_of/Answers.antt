@@ -1,10 +1,9 @@
 use Prim.Native.Nat.{◌*◌}
 use native.Mathlib.Omega.{arith}
-use Rattle.reading.proofs.Whole.{links_most}
 use Rattle.entry_setup.proofs.Arrivals.{arrivals_filled}
 use Rattle.entry_setup.proofs.amounts.arrivals_of.Goals as goal
 
 pub returns : goal.returns
 returns c =
-    let w = c.args.certificate.now in
-    arrivals_filled w.bytes.now c.loop-k.amounts (16 * w.layout.boxes) (links_most w) (omega (arith, w.laid.boxes_are)) (λ k lt. c.loop-k.invariant.1 k (omega arith))
+    let a = c.args.arrivals.now in
+    arrivals_filled a.bytes.now c.loop-k.amounts (16 * c.args.boxes) (omega (arith, a.counted, a.few)) (omega arith) (λ k lt. c.loop-k.invariant.1 k (omega arith))
