@@ -38,6 +38,11 @@ pub length-written : (b : List ℕ) (at : ℕ) (t : List ℕ) → at + length t 
 unfolding written
 length-written b at t h = rw (length-append, length-append, length-drop, length-take-le at b (omega arith)) (omega arith)
 
+-- one byte written is a store
+pub written_one : (b : List ℕ) (at v : ℕ) → at < length b → set b at v ≡ written b at (v ∷ [])
+unfolding written
+written_one b at v h = rw add-one (set_split b at v h)
+
 -- a store, and then a text right before it
 pub written_back : (b : List ℕ) (at : ℕ) (t : List ℕ) (v : ℕ) → at + length t < length b
     → written (set b (at + length t) v) at t ≡ written b at (t ++ (v ∷ []))

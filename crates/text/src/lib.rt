@@ -29,10 +29,11 @@ impl Writer<'_> {
     {
         let end = self.at + decimal_length(n);
         let mut left = n;
-        for i in (self.at..end).rev() {
+        for i in (self.at + 1..end).rev() {
             self.buffer[i] = b'0' + (left % 10) as u8;
             left /= 10;
         }
+        self.buffer[self.at] = b'0' + left as u8;
         self.at = end;
     }
 }
@@ -41,5 +42,5 @@ impl Writer<'_> {
 pub fn decimal_length(n: u32) -> usize
     ensures { (result ≡ length (decimal n)) × (result ≤ 10) }
 {
-    n.max(1).ilog10() as usize + 1
+    if n < 10 { 1 } else { n.ilog10() as usize + 1 }
 }

@@ -1,7 +1,6 @@
 use native.Mathlib.Omega.{arith}
-use Rattle.text.proofs.Written.{room_first, rest_start, rest_next, rest_last}
+use Rattle.text.proofs.Written.{room_first, rest_next, rest_last}
 use Rattle.listing_lines.proofs.LineParts.{line_step, line_end}
-use Rattle.listing_lines.proofs.line.put_line.Goals.{In-loop-word}
 use Rattle.listing_lines.proofs.line.put_line.Goals as goal
 
 pub put_word-requires : goal.put_word-requires

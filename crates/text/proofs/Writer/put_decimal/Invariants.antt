@@ -1,7 +1,7 @@
 -- `text::Writer::put_decimal` meets its contract.
 use mathlib.Core.Path.{◌≡◌}
-use Prim.Native.Nat.{◌+◌, ◌-◌, ◌<◌, ◌≤◌, ◌^◌}
-use lib.ListN.{length, take}
+use Prim.Native.Nat.{◌+◌, ◌<◌, ◌^◌}
+use lib.ListN.{length}
 use Rattle.listing_text.specs.Text.{decimal}
 use Rattle.text.specs.TextPut.{written}
 use Rattle.text.proofs.Writer.put_decimal.Given as goal
@@ -15,7 +15,6 @@ invariant-loop-i l =
       same_length : length l.self.buffer.now ≡ length start.buffer.now;
       same_place : l.self.at ≡ start.at;
       ten_digits : l.left < 10 ^ 10;
-      from_place : start.at ≤ l.i;
-      digits_left : start.at < l.i → l.i ≡ start.at + length (decimal l.left);
-      bytes : written l.self.buffer.now start.at (take (l.i - start.at) (decimal l.left)) ≡ written start.buffer.now start.at (decimal l.n);
+      digits_left : l.i ≡ start.at + length (decimal l.left);
+      bytes : written l.self.buffer.now start.at (decimal l.left) ≡ written start.buffer.now start.at (decimal l.n);
     }
