@@ -17,15 +17,6 @@ use Rattle.successors.specs.declared.ranges.Ranges.{Ranges}
 use Rattle.successors.specs.Ranges.{in_ranges}
 use Rattle.successors.proofs.Ranging.{below_or}
 
--- what `all` answers of the indices below n
-pub all_below : (n m : ℕ) (p : ℕ → Bool) → n ≡ m → list_all p (range_with_len 0 (n - 0)) ≡ every m p
-unfolding every_from every_of
-all_below n m p e = rw e (go (m - 0) 0)
-  where
-    go : (k i : ℕ) → list_all p (range_with_len i k) ≡ every_of p k i
-    go zero i = refl
-    go (suc k) i = rw (go k (i + 1))
-
 -- a test that fails at one index does not hold of all
 every_fails : (n : ℕ) (p : ℕ → Bool) (k : ℕ) → k < n → p k ≡ false → every n p ≡ false
 every_fails n p k lt e = go (every n p) refl
