@@ -2,101 +2,68 @@
 #![tactic(auto)]
 
 ghost use Rattle.std.specs.Prelude.{◌≡◌, ◌≤◌};
-ghost use Rattle.certificate.specs.Checks.{refusal};
-ghost use Rattle.certificate.specs.Facts.{Readable};
-ghost use Rattle.reading.specs.ReadingResults.{LaidOut};
-ghost use Rattle.asking.specs.FoundEntries.{found_at, not_found, cell_found, lookup_of, asked_of};
 ghost use Rattle.certificate.specs.Layout.{max_cells, max_entries};
+ghost use Rattle.asking.specs.FoundEntries.{showing, answer_of, found_at, cell_found, lookup_of, asked_of};
 
 mod proper;
 pub mod stored;
 
 use cell_tables::queues as grid_queues;
-use certificate::Report;
-use entry_records::entries;
+use octets::refusals::{Refusal, Refused, refuse, require};
 use rank_tables::lookup;
-use signal_records::signals;
+use reading::Certificate;
 
-// What a query finds: its report, the signal and its green byte, and the mode that the state passes to.
+// What a query finds: the signal and its green byte, and the mode that the state passes to.
 #[derive(Clone, Copy)]
 pub struct Found {
-    pub report: Report,
     pub signal: u8,
     pub green: u8,
     pub mode: u8,
 }
 
-// A refusal: nothing is shown, and the mode stays.
-pub fn turned_back(report: Report, mode: u8) -> Found
-    ensures { result ≡ not_found report mode }
-{
-    Found {
-        report,
-        signal: 0,
-        green: 0,
-        mode,
-    }
-}
-
-// A refusal that names no place.
-pub fn not_found(number: u8, mode: u8) -> Found
-    ensures { result ≡ not_found (refusal number 0) mode }
-{
-    turned_back(octets::refuse(number, 0), mode)
-}
-
 // What entry e says.
-fn found_at(s: &[u8], layout: reading::Layout, e: usize) -> Found
-    requires { LaidOut s.now layout × (e ≤ max_entries) }
-    ensures { result ≡ found_at s.now e }
+fn found_at(certificate: &Certificate<'_>, e: usize) -> Found
+    requires { e ≤ max_entries }
+    ensures { showing result ≡ found_at certificate.now.bytes.now e }
 {
-    let entry = entries::cabinet_entry(s, layout.entries_start, e);
-    let signal = entry.signal;
-    let green = signals::green_byte_of(s, layout.signals_start, signal);
-    let report = octets::accept();
+    let entry = certificate.cabinet_entry(e);
     Found {
-        report,
-        signal: signal as u8,
-        green: green as u8,
+        signal: entry.signal as u8,
+        green: certificate.green_byte_of(entry.signal) as u8,
         mode: entry.next_mode as u8,
     }
 }
 
-// What is found for a cell in a certificate whose layout is known: what its entry for the mode says, or 19.
-pub fn find_cell(s: &[u8], layout: reading::Layout, mode: u8, cell: usize) -> Found
-    requires { LaidOut s.now layout × Readable s.now × (cell ≤ max_cells) }
-    ensures { result ≡ cell_found s.now mode cell }
+// What is found for a cell: what its entry for the mode says, or 19.
+pub fn find_cell(certificate: &Certificate<'_>, mode: u8, cell: usize) -> Result<Found, Refused>
+    requires { cell ≤ max_cells }
+    ensures { answer_of mode result ≡ cell_found certificate.now.bytes.now mode cell }
 {
-    let entries = layout.entries;
-    let e = lookup::find_entry(s, layout.entries_start, entries, cell, mode as usize);
-    if e >= entries {
-        return not_found(19, mode);
+    match lookup::find_entry(certificate, cell, usize::from(mode)) {
+        Some(e) => Ok(found_at(certificate, e)),
+        None => Err(refuse(Refusal::NoEntry, 0)),
     }
-    found_at(s, layout, e)
 }
 
-// Looks up in a certificate whose layout is known.
-fn look_up(s: &[u8], layout: reading::Layout, mode: u8, queues: &[u32], scale: u32) -> Found
-    requires { LaidOut s.now layout × Readable s.now }
-    ensures { result ≡ lookup_of s.now mode queues.now scale }
+// Looks up in a certificate.
+fn look_up(
+    certificate: &Certificate<'_>,
+    mode: u8,
+    queues: &[u32],
+    scale: u32,
+) -> Result<Found, Refused>
+    ensures { answer_of mode result ≡ lookup_of certificate.now.bytes.now mode queues.now scale }
 {
-    let links = layout.links;
-    if !proper::is_proper(s, links, queues, scale) {
-        return not_found(16, mode);
-    }
-    let places = layout.grids;
-    let cell = grid_queues::cell_at(s, &places, links, queues, scale);
-    find_cell(s, layout, mode, cell)
+    let proper = proper::is_proper(certificate, queues, scale);
+    require(proper, Refusal::Improper, 0)?;
+    let cell = grid_queues::cell_at(certificate, queues, scale);
+    find_cell(certificate, mode, cell)
 }
 
-// Looks up in the first n of the bytes, where they are a certificate.
-pub fn ask(bytes: &[u8], n: usize, mode: u8, queues: &[u32], scale: u32) -> Found
-    ensures { result ≡ asked_of bytes.now n mode queues.now scale }
+// Looks up in the first n of the bytes, where they are a certificate. A refusal leaves the mode as it was.
+pub fn ask(bytes: &[u8], n: usize, mode: u8, queues: &[u32], scale: u32) -> Result<Found, Refused>
+    ensures { answer_of mode result ≡ asked_of bytes.now n mode queues.now scale }
 {
-    let read = stored::stored_reading(bytes, n);
-    let f = read.report;
-    if f.number != 0 {
-        return not_found(18, mode);
-    }
-    look_up(&bytes[0..n], read.layout, mode, queues, scale)
+    let certificate = stored::held(bytes, n)?;
+    look_up(&certificate, mode, queues, scale)
 }

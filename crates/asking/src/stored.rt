@@ -1,14 +1,14 @@
-// Whether the bytes that a state stores are a certificate.
-ghost use Rattle.std.specs.Prelude.{take};
-ghost use Rattle.reading.specs.ReadingResults.{ReadAs};
-ghost use Rattle.asking.specs.FoundEntries.{stored_fault};
+// The certificate that a state stores.
+ghost use Rattle.asking.specs.FoundEntries.{HeldAs};
 
-// Screens the first n of the bytes; refuses where there are fewer.
-pub fn stored_reading(bytes: &[u8], n: usize) -> reading::Reading
-    ensures { ReadAs (take n bytes.now) (stored_fault bytes.now n) result }
+use octets::refusals::{Refusal, Refused, refuse};
+use reading::Certificate;
+
+// The certificate that the first n of the bytes are; 18 where there are fewer, or they are none.
+pub fn held(bytes: &[u8], n: usize) -> Result<Certificate<'_>, Refused>
+    ensures { HeldAs bytes.now n result }
 {
-    if n > bytes.len() {
-        return reading::refused(octets::refuse(18, 0));
-    }
-    screening::screen(&bytes[0..n])
+    let none = refuse(Refusal::NoCertificate, 0);
+    let stored = bytes.get(..n).ok_or(none)?;
+    screening::screen(stored).or(Err(none))
 }

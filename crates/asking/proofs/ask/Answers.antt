@@ -1,31 +1,13 @@
 -- `asking::ask` meets its contract.
-use mathlib.Core.Path.{◌≡◌}
-use native.Mathlib.Nat.{sub-zero}
-use Rattle.asking.proofs.Answers.{enough, readable, asks_none, asks}
-use borrow.Author.Rules.{rules}
+use Rattle.std.proofs.Common.{refl}
+use Rattle.asking.specs.FoundEntries.{asked_of, held_fault}
+use Rattle.asking.proofs.Answers.{turned_back, goes_on}
 use Rattle.asking.proofs.ask.Goals as goal
 
-pub returns-then-f-ne0 : goal.returns-then-f-ne0
-returns-then-f-ne0 c =
-    let a = c.args in
-    asks_none a.bytes.now a.n a.mode a.queues.now a.scale c.stored_reading-read.ensures.report_is c.if-f-ne0.true c.not_found.ensures
-
-pub slice_bounds-look_up-end : goal.slice_bounds-look_up-end
-slice_bounds-look_up-end c =
-    let a = c.args in
-    let h = enough a.bytes.now a.n _ c.stored_reading-read.ensures (search rules) in
-    search rules
-
-pub look_up-requires : goal.look_up-requires
-look_up-requires c =
-    let a = c.args in
-    let read = c.stored_reading-read in
-    let z : read.result.report.number ≡ 0 = search rules in
-    rw sub-zero (read.ensures.laid z, readable a.bytes.now a.n _ read.ensures z)
+pub returns-in_err-certificate : goal.returns-in_err-certificate
+unfolding asked_of held_fault
+returns-in_err-certificate c = turned_back _ _ _ _ _ _ c.from_residual.ensures.1 c.in_err-certificate.ensures.told_is
 
 pub returns : goal.returns
-returns c =
-    let a = c.args in
-    let read = c.stored_reading-read in
-    let z : read.result.report.number ≡ 0 = search rules in
-    asks a.bytes.now a.n a.mode a.queues.now a.scale read.ensures.report_is z (rw sub-zero at c.look_up.ensures)
+unfolding asked_of held_fault
+returns c = goes_on _ _ _ _ _ refl c.in_ok-certificate.ensures.told_is (rw c.in_ok-certificate.ensures.bytes_are at c.look_up.ensures)

@@ -1,15 +1,9 @@
 -- `asking::find_cell` meets its contract.
-use Rattle.rank_tables.proofs.Finding.{cells_ascend}
-use Rattle.asking.proofs.Answers.{finds_none, finds}
+use Rattle.asking.proofs.Answers.{finds, finds_none}
 use Rattle.asking.proofs.find_cell.Goals as goal
 
-pub find_entry-e-requires : goal.find_entry-e-requires
-find_entry-e-requires c =
-    let laid = c.requires.0 in
-    (laid.entries_start_most, laid.entries_start_is, laid.entries_most, laid.entries_are, cells_ascend c.args.s.now c.requires.1, c.requires.2)
+pub returns-in-Some : goal.returns-in-Some
+returns-in-Some c = finds _ _ _ (rw c.from.ensures at c.in-Some.ensures.0) c.in-Some.ensures.1 c.found_at.ensures
 
-pub returns-then-e-entries : goal.returns-then-e-entries
-returns-then-e-entries c = search finds_none
-
-pub returns : goal.returns
-returns c = search finds
+pub returns-in-None : goal.returns-in-None
+returns-in-None c = finds_none _ _ _ (rw c.from.ensures at c.in-None.ensures.0) c.refuse.ensures
