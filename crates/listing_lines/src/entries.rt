@@ -9,6 +9,7 @@ use crate::line::{line_length, put_line};
 use crate::lines;
 use text::Writer;
 
+// Length and text are two walks over the lines, since a text that its buffer has no room for is not begun (refusal 17).
 pub fn entries_length(s: &[u8], start: usize, n: usize) -> usize
     requires { (n ≤ max_entries) × (start ≤ start_bound) × (start ≡ entries_start s.now) }
     ensures { (result ≡ length (entry_lines s.now n)) × (result ≤ 55 * n) }

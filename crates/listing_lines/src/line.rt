@@ -10,6 +10,7 @@ use text::Writer;
 #[derive(Clone, Copy)]
 pub struct Field(pub &'static [u8], pub u32);
 
+// Two functions of a slice, not two methods of a type that holds the fields: the borrow check does not cover a borrow of such a type yet.
 pub fn line_length(fields: &[Field]) -> usize
     requires { length (line_of fields.now) ≤ offset_bound }
     ensures { result ≡ length (line_of fields.now) }
