@@ -46,7 +46,7 @@ fn judge_entry(
 ) -> Result<Searched, Refused>
     requires { (e < entries_of (bytes_of tables.now)) × (count ≤ max_boxes * max_cells * e) }
     ensures told { told_after (λ r. r.count) result ≡ entry_alone (bytes_of tables.now) e count }
-    ensures most { IfOk result (λ r. r.count ≤ max_boxes * max_cells * (e + 1)) }
+    ensures most { (told_after (λ r. r.count) result).count ≤ max_boxes * max_cells * (e + 1) }
     ensures over { IfOk result (λ r. r.over ≡ entry_overflows (bytes_of tables.now) e) }
 {
     let certificate = tables.certificate;
