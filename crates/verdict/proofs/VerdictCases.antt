@@ -14,7 +14,9 @@ use Rattle.network.specs.Conditions.{screening_of}
 use Rattle.judging.specs.EntryTests.{judging_from}
 use Rattle.judging.specs.Verdict.{verdict_of}
 use Rattle.judging.specs.Overflow.{overflows_of}
-use Rattle.judging.proofs.Overflows.{accepted_overflows, refused_overflows}
+use Rattle.judging.proofs.Verdicts.{count_fits}
+use Rattle.judging.proofs.Overflows.{accepted_overflows, refused_overflows, overflows_fit}
+use Rattle.certificate.specs.Layout.{entries_of, boxes_of, cells_of}
 use Rattle.verdict.specs.declared.Accepted.{Accepted}
 use Rattle.verdict.specs.declared.Judged.{Judged}
 use Rattle.verdict.specs.Entries.{JudgedAs, verdict_told, overflows_in, judged_as}
@@ -41,3 +43,14 @@ judging_says s (Ok a) p J =
     let is = judged_is s _ p J.told_is in
     (is, J.counted ∙ sym (accepted_overflows s (sym (ap (λ (q : Report). q.number) is))))
 judging_says s (Err e) p J = refusal_says s e (judged_is s _ p J.told_is)
+
+-- a verdict that is left by `?`, and one that is passed on
+pub left_says : (s : List ℕ) (r : Result Judged Refused) (e : Refused) → IsErrAnd r (λ x. x ≡ e) → Says s (Err e) → Says s (judged_as r)
+left_says s r e h p = let q = err_from_is_err_and r h in rw (q.1, q.2) p
+
+-- the bounds of a verdict's numbers
+pub count_most : (s : List ℕ) (f : Report) → f ≡ verdict_of s → f.count ≤ entries_of s * boxes_of s * cells_of s
+count_most s f is = rw is (count_fits s)
+
+pub overflows_most : (s : List ℕ) (n : ℕ) → n ≡ overflows_of s → n ≤ entries_of s
+overflows_most s n is = rw is (overflows_fit s)
