@@ -1,2 +1,3 @@
 -- What the code that reads detectors goes by.
 pub mod Heights
+pub mod Levels

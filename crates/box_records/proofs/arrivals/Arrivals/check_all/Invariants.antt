@@ -1,4 +1,4 @@
--- `box_records::arrivals::Arrivals::check_arrivals` meets its contract.
+-- `box_records::arrivals::Arrivals::check_all` meets its contract.
 use mathlib.Core.Path.{◌≡◌}
 use Rattle.certificate.specs.Checks.{first_from}
 use Rattle.certificate.specs.Records.{arrival_fault}
