@@ -1,4 +1,5 @@
 // Reading the stream of stored cases: numbers, high byte first, and runs of bytes. Where the input ends early, zeros are read.
+// A case is the byte C and its calls; the byte E ends the stream.
 // The calls, each a mark and what stands behind it (n, more, scale and size are four bytes wide, length and start eight, count two, mode one):
 //   F                          the fresh state
 //   S n bytes length mode      a state made by hand: these stored bytes, then zeros; its length; its mode
@@ -10,7 +11,11 @@
 //   M n more bytes             comparison: a certificate of n bytes, and one of `more` bytes behind it
 #![tactic(auto)]
 
-use std::io::{self, ErrorKind, Read};
+ghost use Rattle.std.specs.Prelude.{◌≡◌, ◌≤◌, IfOk, IfSome, vec_len};
+ghost use Rattle.case_input.specs.Limits.{IsWithinLimits, HasCallWithinLimits};
+
+use std::alloc::Global;
+use std::io::{self, Read};
 
 // The most bytes and queues that a call has, and the largest buffer that it is lent.
 pub const MOST_BYTES: usize = 40960;
@@ -19,190 +24,167 @@ pub const MOST_QUEUES: usize = 64;
 
 pub const MOST_LENT: usize = 49152;
 
-// No count: the stream does not go on as it must.
-pub const BROKEN: usize = 18446744073709551615;
-
-// One call as the stream has it.
-#[derive(Clone, Copy)]
-pub struct Call {
-    pub mark: u8,
-    // How many bytes or queues it has, or the size of its buffer, or BROKEN.
-    pub n: usize,
-    // How many bytes stand behind the first n: those of the second certificate.
-    pub more: usize,
-    // The start of a write, or the length of a state.
-    pub start: usize,
-    pub scale: u32,
-    pub mode: u8,
+// One call as the stream has it, with what stands behind its mark. An enum has no ghost field, so that its parts are within the limits
+// stands at each function that reads one.
+#[derive(Debug, PartialEq, Eq, Drop)]
+pub enum Call {
+    Fresh,
+    State {
+        bytes: Vec<u8>,
+        length: usize,
+        mode: u8,
+    },
+    Load(Vec<u8>),
+    Query {
+        scale: u32,
+        queues: Vec<u32>,
+    },
+    Poll(Vec<u8>),
+    Write {
+        size: usize,
+        start: usize,
+    },
+    List(Vec<u8>),
+    Compare {
+        first: Vec<u8>,
+        second: Vec<u8>,
+    },
 }
 
-pub fn octet(input: &mut impl Read) -> io::Result<u8> {
-    let mut one = [0u8; 1];
-    fill(input, &mut one)?;
-    Ok(one[0])
+// What stands next in the stream.
+#[derive(Debug, PartialEq, Eq, Drop)]
+pub enum Item {
+    Case,
+    Call(Call),
+    End,
 }
 
-fn joined(high: u32, low: u32) -> u64 {
-    high as u64 * 4294967296 + low as u64
+// The next byte, or 0 where the input has ended.
+fn octet(input: &mut impl Read) -> io::Result<u8> {
+    input.bytes().next().unwrap_or(Ok(0))
 }
 
-fn paired(high: u16, low: u16) -> u32 {
-    high as u32 * 65536 + low as u32
-}
-
-fn coupled(high: u8, low: u8) -> u16 {
-    high as u16 * 256 + low as u16
-}
-
-fn half(input: &mut impl Read) -> io::Result<u16> {
-    let high = octet(input)?;
-    Ok(coupled(high, octet(input)?))
-}
-
-fn word(input: &mut impl Read) -> io::Result<u32> {
-    let high = half(input)?;
-    Ok(paired(high, half(input)?))
-}
-
-fn long(input: &mut impl Read) -> io::Result<u64> {
-    let high = word(input)?;
-    Ok(joined(high, word(input)?))
-}
-
-// Whether the next bytes of the input fill the slice.
-fn fill(input: &mut impl Read, bytes: &mut [u8]) -> io::Result<bool> {
-    match input.read_exact(bytes) {
-        Ok(()) => Ok(true),
-        Err(e) => {
-            if e.kind() == ErrorKind::UnexpectedEof {
-                Ok(false)
-            } else {
-                Err(e)
-            }
-        }
+// The bytes of a number: zeros where the input ends within it.
+fn octets<const N: usize>(input: &mut impl Read) -> io::Result<[u8; N]> {
+    let mut bytes = [0; N];
+    for byte in &mut bytes {
+        *byte = octet(input)?;
     }
+    Ok(bytes)
 }
 
-// A number for each place.
-fn fill_queues(input: &mut impl Read, queues: &mut [u32]) -> io::Result<()> {
-    let mut i = 0;
-    while i < queues.len() {
-        queues[i] = word(input)?;
-        i += 1;
-    }
-    Ok(())
+// A number of four bytes as a count.
+fn count(input: &mut impl Read) -> io::Result<usize> {
+    Ok(u32::from_be_bytes(octets(input)?) as usize)
 }
 
-// A call that is known by its count.
-fn with(mark: u8, n: usize) -> Call {
-    Call {
-        mark,
-        n,
-        more: 0,
-        start: 0,
-        scale: 0,
-        mode: 0,
-    }
+// A place or a length.
+fn place(input: &mut impl Read) -> io::Result<usize> {
+    Ok(u64::from_be_bytes(octets(input)?) as usize)
 }
 
-// A count and so many bytes, into the front of a slice: the count.
-fn counted(input: &mut impl Read, bytes: &mut [u8]) -> io::Result<usize> {
-    let n = word(input)? as usize;
-    if n > bytes.len() {
-        return Ok(BROKEN);
+// The next n bytes, where the input has them all.
+fn exactly(alloc: Global, input: &mut impl Read, n: usize) -> io::Result<Option<Vec<u8>>>
+    ensures { IfOk result (λ read. IfSome read (λ bytes. vec_len bytes ≡ n)) }
+{
+    let mut bytes = Vec::with_capacity(alloc, n)?;
+    input.take(n as u64).read_to_end(&mut bytes)?;
+    Ok((bytes.len() == n).then_some(bytes))
+}
+
+// A count and so many bytes.
+fn counted(alloc: Global, input: &mut impl Read) -> io::Result<Option<Vec<u8>>>
+    ensures { IfOk result (λ read. IfSome read (λ bytes. vec_len bytes ≤ MOST_BYTES)) }
+{
+    let n = count(input)?;
+    if n > MOST_BYTES {
+        return Ok(None);
     }
-    if !fill(input, &mut bytes[0..n])? {
-        return Ok(BROKEN);
-    }
-    Ok(n)
+    exactly(alloc, input, n)
 }
 
 // S: bytes, a length, a mode.
-fn read_state(input: &mut impl Read, bytes: &mut [u8]) -> io::Result<Call> {
-    let n = counted(input, bytes)?;
-    let start = long(input)? as usize;
-    Ok(Call {
-        mark: b'S',
-        n,
-        more: 0,
-        start,
-        scale: 0,
-        mode: octet(input)?,
-    })
+fn read_state(alloc: Global, input: &mut impl Read) -> io::Result<Option<Call>>
+    ensures { IfOk result (λ read. IfSome read IsWithinLimits) }
+{
+    let stored = counted(alloc, input)?;
+    let length = place(input)?;
+    let mode = octet(input)?;
+    Ok(stored.map(|bytes| Call::State {
+        bytes,
+        length,
+        mode,
+    }))
 }
 
 // Q: a scale, a count and so many queues.
-fn read_query(input: &mut impl Read, queues: &mut [u32]) -> io::Result<Call> {
-    let scale = word(input)?;
-    let n = half(input)? as usize;
-    if n > queues.len() {
-        return Ok(with(b'Q', BROKEN));
+fn read_query(alloc: Global, input: &mut impl Read) -> io::Result<Option<Call>>
+    ensures { IfOk result (λ read. IfSome read IsWithinLimits) }
+{
+    let scale = u32::from_be_bytes(octets(input)?);
+    let n = usize::from(u16::from_be_bytes(octets(input)?));
+    if n > MOST_QUEUES {
+        return Ok(None);
     }
-    fill_queues(input, &mut queues[0..n])?;
-    Ok(Call {
-        mark: b'Q',
-        n,
-        more: 0,
-        start: 0,
-        scale,
-        mode: 0,
-    })
+    let mut queues = vec![in alloc; 0; n]?;
+    for queue in &mut queues {
+        *queue = u32::from_be_bytes(octets(input)?);
+    }
+    Ok(Some(Call::Query { scale, queues }))
 }
 
 // W: the size of the buffer, and a start.
-fn read_write(input: &mut impl Read) -> io::Result<Call> {
-    let n = word(input)? as usize;
-    let start = long(input)? as usize;
-    if n > MOST_LENT {
-        return Ok(with(b'W', BROKEN));
-    }
-    Ok(Call {
-        mark: b'W',
-        n,
-        more: 0,
-        start,
-        scale: 0,
-        mode: 0,
-    })
+fn read_write(input: &mut impl Read) -> io::Result<Option<Call>>
+    ensures { IfOk result (λ read. IfSome read IsWithinLimits) }
+{
+    let size = count(input)?;
+    let start = place(input)?;
+    Ok((size <= MOST_LENT).then_some(Call::Write { size, start }))
 }
 
 // M: two counts and so many bytes.
-fn read_pair(input: &mut impl Read, bytes: &mut [u8]) -> io::Result<Call> {
-    let n = word(input)? as usize;
-    let more = word(input)? as usize;
-    if n > bytes.len() {
-        return Ok(with(b'M', BROKEN));
+fn read_comparison(alloc: Global, input: &mut impl Read) -> io::Result<Option<Call>>
+    ensures { IfOk result (λ read. IfSome read IsWithinLimits) }
+{
+    let n = count(input)?;
+    let more = count(input)?;
+    if n > MOST_BYTES || more > MOST_BYTES - n {
+        return Ok(None);
     }
-    if more > bytes.len() - n {
-        return Ok(with(b'M', BROKEN));
-    }
-    if !fill(input, &mut bytes[0..n + more])? {
-        return Ok(with(b'M', BROKEN));
-    }
-    Ok(Call {
-        mark: b'M',
-        n,
-        more,
-        start: 0,
-        scale: 0,
-        mode: 0,
-    })
+    let Some(first) = exactly(alloc, input, n)? else {
+        return Ok(None);
+    };
+    let second = exactly(alloc, input, more)?;
+    Ok(second.map(|second| Call::Compare { first, second }))
 }
 
-// The call whose mark was read: F, S, L, Q, P, W, T or M.
-pub fn read_call(
-    input: &mut impl Read,
-    mark: u8,
-    bytes: &mut [u8],
-    queues: &mut [u32],
-) -> io::Result<Call> {
+// The call of a mark.
+fn read_call(alloc: Global, input: &mut impl Read, mark: u8) -> io::Result<Option<Call>>
+    ensures { IfOk result (λ read. IfSome read IsWithinLimits) }
+{
     match mark {
-        b'F' => Ok(with(mark, 0)),
-        b'S' => read_state(input, bytes),
-        b'L' | b'P' | b'T' => Ok(with(mark, counted(input, bytes)?)),
-        b'Q' => read_query(input, queues),
+        b'F' => Ok(Some(Call::Fresh)),
+        b'S' => read_state(alloc, input),
+        b'L' => Ok(counted(alloc, input)?.map(Call::Load)),
+        b'Q' => read_query(alloc, input),
+        b'P' => Ok(counted(alloc, input)?.map(Call::Poll)),
         b'W' => read_write(input),
-        b'M' => read_pair(input, bytes),
-        _ => Ok(with(mark, BROKEN)),
+        b'T' => Ok(counted(alloc, input)?.map(Call::List)),
+        b'M' => read_comparison(alloc, input),
+        _ => Ok(None),
     }
 }
+
+// What stands next in the stream, or none where it does not go on as it must.
+pub fn read_item(alloc: Global, input: &mut impl Read) -> io::Result<Option<Item>>
+    ensures { IfOk result (λ read. IfSome read HasCallWithinLimits) }
+{
+    match octet(input)? {
+        b'C' => Ok(Some(Item::Case)),
+        b'E' => Ok(Some(Item::End)),
+        mark => Ok(read_call(alloc, input, mark)?.map(Item::Call)),
+    }
+}
+
+#[cfg(test)]
+mod tests;

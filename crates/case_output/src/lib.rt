@@ -1,50 +1,29 @@
-// Printing the lines of results, and the buffer that a write is lent.
+// How the line of a call begins, and the buffer that a write is lent.
 #![tactic(auto)]
+
+ghost use Rattle.std.specs.Prelude.{Some};
+ghost use Rattle.case_output.specs.Lines.{answer_text};
 
 pub mod buffer;
 
 use certificate::Report;
-use std::io;
+use std::fmt;
 
-// Text as it stands.
-pub fn text(rt: &impl Print, bytes: &[u8]) -> io::Result<()> {
-    rt.write_all(bytes)
-}
+// The name of a call and its report, as a line begins with them.
+#[derive(Clone, Copy)]
+pub struct Answer<'a>(pub &'a str, pub Report);
 
-// A name and a number behind it.
-pub fn field(rt: &impl Print, name: &[u8], number: u64) -> io::Result<()> {
-    text(rt, name)?;
-    rt.print(number)
-}
+impl fmt::Display for Answer<'_> {
+    ghost output = { λ a. Some (answer_text a.0.now a.1) };
 
-// The same of numbers of one and of four bytes.
-pub fn small(rt: &impl Print, name: &[u8], number: u8) -> io::Result<()> {
-    field(rt, name, number as u64)
-}
-
-pub fn medium(rt: &impl Print, name: &[u8], number: u32) -> io::Result<()> {
-    field(rt, name, number as u64)
-}
-
-// A call's name and its report.
-pub fn report(rt: &impl Print, name: &[u8], r: Report) -> io::Result<()> {
-    text(rt, name)?;
-    small(rt, b" ", r.number)?;
-    medium(rt, b" ", r.a)?;
-    medium(rt, b" ", r.b)?;
-    medium(rt, b" ", r.count)
-}
-
-pub fn case(rt: &impl Print, number: u64) -> io::Result<()> {
-    field(rt, b"case ", number)?;
-    text(rt, b"\n")
-}
-
-// The first bytes of a text, as many as a report says.
-pub fn front(rt: &impl Print, bytes: &[u8], count: u32) -> io::Result<()> {
-    let n = count as usize;
-    if n <= bytes.len() {
-        text(rt, &bytes[0..n])?;
+    fn fmt<W: fmt::Write>(&self, f: &mut fmt::Formatter<W>) -> fmt::Result {
+        let Answer(call, report) = *self;
+        let Report {
+            number,
+            a,
+            b,
+            count,
+        } = report;
+        write!(f, "{call} {number} {a} {b} {count}")
     }
-    Ok(())
 }

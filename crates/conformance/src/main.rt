@@ -2,84 +2,69 @@
 // A case is the byte C and its calls (crate case_input); the byte E ends the stream.
 #![tactic(auto)]
 
-use case_input::Call;
+ghost use Rattle.case_input.specs.Limits.{IsWithinLimits};
+
+use case_input::{Call, Item};
 use controller::Controller;
 use std::io::{self, BufReader};
 
 mod calls;
-mod parts;
 
-// A state made by hand: stored bytes, then zeros; its length; its mode.
+// A state made by hand: stored bytes, as many as there is room for, then zeros; its length; its mode.
 fn made(bytes: &[u8], len: usize, mode: u8) -> Controller {
-    let mut stored = [0u8; Controller::SIZE];
-    parts::copy(bytes, &mut stored);
-    Controller {
-        bytes: stored,
-        len,
-        mode,
-    }
+    let mut state = Controller::fresh();
+    let n = bytes.len().min(Controller::SIZE);
+    state.bytes[..n].copy_from_slice(&bytes[..n]);
+    state.len = len;
+    state.mode = mode;
+    state
 }
 
-// Makes a call, prints its line, and answers the next state. Writes and listings are lent a buffer; a comparison has two certificates in `bytes`.
+// Makes a call and prints its line. Writes and listings are lent a buffer.
 fn answer(
     rt: &impl Print,
-    state: Controller,
+    state: &mut Controller,
     call: Call,
-    bytes: &[u8],
-    queues: &[u32],
-    lent: &mut [u8],
-) -> io::Result<Controller> {
-    let mark = call.mark;
-    let n = call.n;
-    match mark {
-        b'F' => Ok(Controller::fresh()),
-        b'S' => Ok(made(parts::front(bytes, n), call.start, call.mode)),
-        b'L' => calls::do_load(rt, state, parts::front(bytes, n)),
-        b'Q' => calls::do_query(rt, state, parts::front_numbers(queues, n), call.scale),
-        b'P' => calls::do_poll(rt, state, parts::front(bytes, n)),
-        b'W' => {
-            calls::do_write(rt, state, lent, n, call.start)?;
-            Ok(state)
+    lent: &mut [u8; case_input::MOST_LENT],
+) -> io::Result<()>
+    requires { IsWithinLimits call }
+{
+    match call {
+        Call::Fresh => *state = Controller::fresh(),
+        Call::State {
+            bytes,
+            length,
+            mode,
+        } => *state = made(&bytes, length, mode),
+        Call::Load(bytes) => calls::load(rt, state, &bytes)?,
+        Call::Query { scale, queues } => {
+            calls::look_up(rt, "query", state, |state| state.query(&queues, scale))?
         }
-        b'M' => {
-            calls::do_compare(
-                rt,
-                parts::front(bytes, n),
-                parts::behind(bytes, n, call.more),
-            )?;
-            Ok(state)
+        Call::Poll(bytes) => {
+            calls::look_up(rt, "poll", state, |state| polling::poll(state, &bytes))?
         }
-        _ => {
-            calls::do_list(rt, parts::front(bytes, n), lent)?;
-            Ok(state)
-        }
+        Call::Write { size, start } => calls::write(rt, state, &mut lent[..size], start)?,
+        Call::List(bytes) => calls::list(rt, &bytes, lent)?,
+        Call::Compare { first, second } => calls::compare(rt, &first, &second)?,
     }
+    Ok(())
 }
 
 fn main(rt: HostRuntime) -> io::Result<()> {
     let mut input = BufReader::new(rt.alloc(), rt.reader())?;
-    let mut bytes = [0u8; case_input::MOST_BYTES];
-    let mut queues = [0u32; case_input::MOST_QUEUES];
     let mut lent = [0u8; case_input::MOST_LENT];
     let mut state = Controller::fresh();
-    let mut cases = 0;
-    let mut turns = u64::MAX;
-    while turns > 0 {
-        turns -= 1;
-        let mark = case_input::octet(&mut input)?;
-        if mark == b'E' {
-            return Ok(());
-        }
-        if mark == b'C' {
-            case_output::case(&rt, cases)?;
-            cases = std::num::wrapping_add_u64(cases, 1);
-            state = Controller::fresh();
-        } else {
-            let call = case_input::read_call(&mut input, mark, &mut bytes, &mut queues)?;
-            if call.n == case_input::BROKEN {
-                return case_output::text(&rt, b"the stream is broken\n");
+    let mut cases = 0u64;
+    for _ in 0..u64::MAX {
+        match case_input::read_item(rt.alloc(), &mut input)? {
+            Some(Item::Case) => {
+                println!(rt; "case {cases}")?;
+                cases = cases.wrapping_add(1);
+                state = Controller::fresh();
             }
-            state = answer(&rt, state, call, &bytes, &queues, &mut lent)?;
+            Some(Item::Call(call)) => answer(&rt, &mut state, call, &mut lent)?,
+            Some(Item::End) => return Ok(()),
+            None => return println!(rt; "the stream is broken"),
         }
     }
     Ok(())

@@ -1,125 +1,101 @@
 // The search through an entry's successors.
-ghost use Rattle.std.specs.Prelude.{◌≡◌, ℕ, ◌+◌, ◌*◌, ◌<◌, ◌≤◌, length, get_or};
-ghost use Rattle.certificate.specs.Facts.{Readable};
-ghost use Rattle.cell_tables.specs.Tables.{CountsOf, DigitsOf};
-ghost use Rattle.rank_tables.specs.Index.{RanksOf};
-ghost use Rattle.judging.specs.EntryTests.{follows, successor_fault};
+ghost use Rattle.std.specs.Prelude.{◌≡◌, ℕ, ◌+◌, ◌*◌, ◌<◌, ◌≤◌, length, get_or, IfOk};
+ghost use Rattle.std.specs.Option.{IfSome};
+ghost use Rattle.certificate.specs.Layout.{max_boxes, max_cells, max_entries, cells_of, next_mode_of};
+ghost use Rattle.octets.specs.Refusals.{told, told_after};
+ghost use Rattle.rank_tables.specs.Index.{rank_at};
+ghost use Rattle.judging.specs.EntryTests.{successor_fault, accepted};
 ghost use Rattle.judging.specs.Overflow.{entry_overflows};
-ghost use Rattle.entry_setup.specs.Tables.{TablesOf, EntryEnds, IsTask};
-ghost use Rattle.certificate.specs.Loops.{pick};
-ghost use Rattle.entry_search.specs.Search.{AtCell, BoxRanges, RunsFit, boxes_from, column_passing, passes, run_passing, runs_passing};
-ghost use Rattle.certificate.specs.Layout.{max_boxes, max_cells, links_of};
+ghost use Rattle.successors.specs.Ranges.{Bounded};
+ghost use Rattle.entry_setup.specs.Bytes.{bytes_of};
+ghost use Rattle.entry_setup.specs.Tables.{EntryEnds};
+ghost use Rattle.entry_search.specs.Search.{BoxRanges, RunsFit, box_alone, boxes_from, column_passing, passes, run_passing, runs_passing};
 
 use crate::boxes;
-use cell_tables::{digits as cells, tables as edges_table};
-use certificate::{Report, limits};
-use entry_setup::{Task, amounts};
-use octets::numbers;
-use rank_tables::ranks as rank_table;
+use certificate::limits;
+use entry_setup::Entry;
+use images::ends::Ends;
+use octets::refusals::{self, Refusal, Refused};
+use successors::ranges::Ranges;
 use successors::{seek, starts};
 
-// The number of the refusal of successor d: 14 where it is not listed with the next mode, 15 where its rank is not lower, else 0.
-fn successor_number(s: &[u8], task: Task, ranks: &[u32; rank_table::RANKS], d: usize) -> u8
-    requires { IsTask s.now task × RanksOf s.now ranks.now × (d < task.cells) }
-    ensures { result ≡ (successor_fault s.now task.entry d 0).number }
+// What the table of ranks has for successor d: its rank raised by one, 0 where it is not listed with the next mode.
+fn rank_at(entry: &Entry<'_>, d: usize) -> u32
+    requires { d < cells_of (bytes_of entry.now.tables.now) }
+    ensures { result ≡ rank_at (bytes_of entry.now.tables.now) d (next_mode_of (bytes_of entry.now.tables.now) entry.now.number) }
 {
-    let v = numbers::wide_quad(ranks[task.row + d]);
-    if (v != 0) & (v <= numbers::wide_quad(task.bound)) {
-        return 0;
-    }
-    if v == 0 {
-        return 14;
-    }
-    15
+    entry.tables.ranks[entry.row + d]
 }
 
-// 1 where successor d passes, else 0: the same test, in the form that is quickest for many in a row.
-fn passing(s: &[u8], task: Task, ranks: &[u32; rank_table::RANKS], d: usize) -> u32
-    requires { IsTask s.now task × RanksOf s.now ranks.now × (d < task.cells) }
-    ensures { result ≡ pick (passes s.now task.entry d) 1 0 }
+// Successor d, as the last of so many that are looked up: refused where it is not listed with the next mode, or its rank is not lower.
+fn check_successor(entry: &Entry<'_>, d: usize, count: u32) -> Result<(), Refused>
+    requires { d < cells_of (bytes_of entry.now.tables.now) }
+    ensures { told result ≡ successor_fault (bytes_of entry.now.tables.now) entry.now.number d count }
 {
-    let v = numbers::wide_quad(ranks[task.row + d]);
+    let v = rank_at(entry, d);
     if v == 0 {
-        return 0;
+        return Err(refusals::refuse_at(Refusal::Unlisted, entry.number, d, count));
     }
-    if numbers::wide_quad(task.bound) < v {
-        return 0;
+    if v > entry.bound {
+        return Err(refusals::refuse_at(Refusal::NotLower, entry.number, d, count));
     }
-    1
+    Ok(())
+}
+
+// Whether successor d passes: the same test, in the form that is quickest for many in a row.
+fn passes(entry: &Entry<'_>, d: usize) -> bool
+    requires { d < cells_of (bytes_of entry.now.tables.now) }
+    ensures { result ≡ passes (bytes_of entry.now.tables.now) entry.now.number d }
+{
+    let v = rank_at(entry, d);
+    (v != 0) & (v <= entry.bound)
 }
 
 // How many of the cells first .. first + size - 1 pass. This loop and the next are not left early, so that the compiler may look several up
 // at once.
-fn run_passed(
-    s: &[u8],
-    task: Task,
-    ranks: &[u32; rank_table::RANKS],
-    first: usize,
-    size: usize,
-) -> u32
-    requires { IsTask s.now task × RanksOf s.now ranks.now × (first + size ≤ task.cells) }
-    ensures { result ≡ run_passing s.now task.entry first size }
+fn run_passed(entry: &Entry<'_>, first: usize, size: usize) -> u32
+    requires { first + size ≤ cells_of (bytes_of entry.now.tables.now) }
+    ensures { result ≡ run_passing (bytes_of entry.now.tables.now) entry.now.number first size }
 {
-    let mut passed: u32 = 0;
+    let mut passed = 0;
     for j in 0..size {
-        passed += passing(s, task, ranks, first + j);
+        passed += u32::from(passes(entry, first + j));
     }
     passed
 }
 
-// How many of the n runs have a cell number j that passes.
-fn column_passed(
-    s: &[u8],
-    task: Task,
-    ranks: &[u32; rank_table::RANKS],
-    runs: &[u16],
-    n: usize,
-    j: usize,
-) -> u32
-    requires { IsTask s.now task × RanksOf s.now ranks.now × (n ≤ max_cells) × (length runs.now ≡ max_cells) × ((i : ℕ) → i < n → get_or runs.now i 0 + j < task.cells) }
-    ensures { result ≡ column_passing s.now task.entry runs.now n j }
+// How many of the runs have a cell number j that passes.
+fn column_passed(entry: &Entry<'_>, runs: &[u16], j: usize) -> u32
+    requires { (length runs.now ≤ max_cells) × ((i : ℕ) → i < length runs.now → get_or runs.now i 0 + j < cells_of (bytes_of entry.now.tables.now)) }
+    ensures { result ≡ column_passing (bytes_of entry.now.tables.now) entry.now.number runs.now j }
 {
-    let mut passed: u32 = 0;
-    for i in 0..n {
-        passed += passing(s, task, ranks, numbers::wide_pair(runs[i]) + j);
+    let mut passed = 0;
+    for &run in runs {
+        passed += u32::from(passes(entry, usize::from(run) + j));
     }
     passed
 }
 
-// How many cells of n short runs pass: the first cells of all runs, then the second, and so on.
-fn short_runs(
-    s: &[u8],
-    task: Task,
-    ranks: &[u32; rank_table::RANKS],
-    runs: &[u16],
-    n: usize,
-    size: usize,
-) -> u32
-    requires { IsTask s.now task × RanksOf s.now ranks.now × RunsFit runs.now n size task.cells }
-    ensures { result ≡ runs_passing s.now task.entry runs.now n size }
+// How many cells of short runs pass: the first cells of all runs, then the second, and so on.
+fn short_runs(entry: &Entry<'_>, runs: &[u16], size: usize) -> u32
+    requires { RunsFit runs.now size (cells_of (bytes_of entry.now.tables.now)) }
+    ensures { result ≡ runs_passing (bytes_of entry.now.tables.now) entry.now.number runs.now size }
 {
-    let mut passed: u32 = 0;
+    let mut passed = 0;
     for j in 0..size {
-        passed += column_passed(s, task, ranks, runs, n, j);
+        passed += column_passed(entry, runs, j);
     }
     passed
 }
 
-// How many cells of n long runs pass, run by run.
-fn long_runs(
-    s: &[u8],
-    task: Task,
-    ranks: &[u32; rank_table::RANKS],
-    runs: &[u16],
-    n: usize,
-    size: usize,
-) -> u32
-    requires { IsTask s.now task × RanksOf s.now ranks.now × RunsFit runs.now n size task.cells }
-    ensures { result ≡ runs_passing s.now task.entry runs.now n size }
+// How many cells of long runs pass, run by run.
+fn long_runs(entry: &Entry<'_>, runs: &[u16], size: usize) -> u32
+    requires { RunsFit runs.now size (cells_of (bytes_of entry.now.tables.now)) }
+    ensures { result ≡ runs_passing (bytes_of entry.now.tables.now) entry.now.number runs.now size }
 {
-    let mut passed: u32 = 0;
-    for i in 0..n {
-        passed += run_passed(s, task, ranks, numbers::wide_pair(runs[i]), size);
+    let mut passed = 0;
+    for &first in runs {
+        passed += run_passed(entry, usize::from(first), size);
     }
     passed
 }
@@ -128,146 +104,94 @@ fn long_runs(
 const LONG_RUN: usize = 16;
 
 // How many cells of all runs pass.
-fn runs_passed(
-    s: &[u8],
-    task: Task,
-    ranks: &[u32; rank_table::RANKS],
-    runs: &[u16],
-    n: usize,
-    size: usize,
-) -> u32
-    requires { IsTask s.now task × RanksOf s.now ranks.now × RunsFit runs.now n size task.cells }
-    ensures { result ≡ runs_passing s.now task.entry runs.now n size }
+fn runs_passed(entry: &Entry<'_>, runs: &[u16], size: usize) -> u32
+    requires { RunsFit runs.now size (cells_of (bytes_of entry.now.tables.now)) }
+    ensures { result ≡ runs_passing (bytes_of entry.now.tables.now) entry.now.number runs.now size }
 {
     if size < LONG_RUN {
-        return short_runs(s, task, ranks, runs, n, size);
+        short_runs(entry, runs, size)
+    } else {
+        long_runs(entry, runs, size)
     }
-    long_runs(s, task, ranks, runs, n, size)
 }
 
-// What looking at one cell gives: the number of its refusal, or 0; and 1 where it was looked up, else 0.
-#[derive(Clone, Copy)]
-struct Looked {
-    number: u8,
-    looked: u32,
-}
-
-// One cell of a box: looked up where it lies in the ranges, else passed over.
-fn look<'a>(
-    s: &[u8],
-    task: Task,
-    ranks: &[u32; rank_table::RANKS],
-    digits: &[u8; cells::DIGITS],
-    first: &'a [usize; limits::MAX_LINKS],
-    last: &'a [usize; limits::MAX_LINKS],
-    links: usize,
-    b: usize,
-    d: usize,
-) -> Looked
-    requires { IsTask s.now task × RanksOf s.now ranks.now × Readable s.now × DigitsOf s.now digits.now × (links ≡ links_of s.now) × BoxRanges s.now task.entry b first.now last.now × (d < task.cells) }
-    ensures { (result.number ≡ pick (follows s.now task.entry b d) (successor_fault s.now task.entry d 0).number 0) × (result.looked ≡ pick (follows s.now task.entry b d) 1 0) }
+// The successors of a box looked up as a whole, in no order: where all of them pass, how many they are. `runs` is room for the starts of their
+// runs.
+fn whole_box(entry: &Entry<'_>, ranges: &Ranges, runs: &mut [u16; limits::MAX_CELLS]) -> Option<u32>
+    requires { Bounded (bytes_of entry.now.tables.now) ranges.now }
+    ensures few { IfSome result (λ n. n ≤ max_cells) }
+    ensures passed { (b : ℕ) → BoxRanges (bytes_of entry.now.tables.now) entry.now.number b ranges.now → IfSome result (λ n. (m : ℕ) → box_alone (bytes_of entry.now.tables.now) entry.now.number b m ≡ accepted (m + n)) }
 {
-    if !seek::in_ranges(s, digits, first, last, links, d) {
-        return Looked {
-            number: 0,
-            looked: 0,
-        };
+    let tables = entry.tables;
+    let found = starts::runs_of(tables.certificate, tables.counts, ranges, runs);
+    let passed = runs_passed(entry, &runs[..found.count], found.size);
+    if passed as usize == found.count * found.size {
+        Some(passed)
+    } else {
+        None
     }
-    let number = successor_number(s, task, ranks, d);
-    Looked { number, looked: 1 }
 }
 
-// Where the search of a box in order begins, and how many successors were looked up before.
-#[derive(Clone, Copy)]
-struct Start {
-    cell: usize,
-    looked: u32,
-}
-
-// The runs of a box looked up as a whole, in no order: where all their cells pass, they are counted and no cell is left; else the search in
-// order begins at the first cell. `runs` is room for the starts of the runs.
-fn whole_box<'a>(
-    s: &[u8],
-    task: Task,
-    ranks: &[u32; rank_table::RANKS],
-    counts: &[usize; limits::MAX_LINKS],
-    first: &'a [usize; limits::MAX_LINKS],
-    last: &'a [usize; limits::MAX_LINKS],
-    links: usize,
-    b: usize,
-    runs: &mut [u16],
-) -> Start
-    requires { IsTask s.now task × RanksOf s.now ranks.now × Readable s.now × CountsOf s.now counts.now × (links ≡ links_of s.now) × BoxRanges s.now task.entry b first.now last.now × (length runs.old ≡ max_cells) }
-    ensures { AtCell s.now task.entry b result.cell result.looked × (length runs.new ≡ max_cells) }
+// The successors of a box looked up in the order of their cells, up to the first that is refused: each adds one to the count, the refused one
+// too.
+fn in_order(entry: &Entry<'_>, ranges: &Ranges, mut count: u32) -> Result<u32, Refused>
+    requires { count ≤ max_boxes * max_cells * max_entries }
+    ensures { (b : ℕ) → BoxRanges (bytes_of entry.now.tables.now) entry.now.number b ranges.now → told_after (λ n. n) result ≡ box_alone (bytes_of entry.now.tables.now) entry.now.number b count }
 {
-    let r = starts::runs_of(s, counts, first, last, links, runs);
-    let n = r.count;
-    let size = r.size;
-    let looked = runs_passed(s, task, ranks, &*runs, n, size);
-    if numbers::wide_quad(looked) != n * size {
-        return Start { cell: 0, looked: 0 };
+    let tables = entry.tables;
+    for d in 0..tables.certificate.layout.cells {
+        if seek::in_ranges(tables.certificate, tables.digits, ranges, d) {
+            count += 1;
+            check_successor(entry, d, count)?;
+        }
     }
-    Start {
-        cell: task.cells,
-        looked,
+    Ok(count)
+}
+
+// The search of one box: the count after it. A box of which every successor passes is counted as it is looked up as a whole.
+fn search_box(
+    entry: &Entry<'_>,
+    ranges: &Ranges,
+    runs: &mut [u16; limits::MAX_CELLS],
+    count: u32,
+) -> Result<u32, Refused>
+    requires { Bounded (bytes_of entry.now.tables.now) ranges.now × (count ≤ max_boxes * max_cells * max_entries) }
+    ensures { (b : ℕ) → BoxRanges (bytes_of entry.now.tables.now) entry.now.number b ranges.now → told_after (λ n. n) result ≡ box_alone (bytes_of entry.now.tables.now) entry.now.number b count }
+{
+    match whole_box(entry, ranges, runs) {
+        Some(passed) => Ok(count + passed),
+        None => in_order(entry, ranges, count),
     }
 }
 
-// What the search of an entry gives: its report, and whether some link may exceed its cap in some box, where no successor is refused.
+// What the search of an entry finds where it refuses no successor: the lookups so far, and whether some link may exceed its cap in some box.
 #[derive(Clone, Copy)]
 pub struct Searched {
-    pub report: Report,
+    pub count: u32,
     pub over: bool,
 }
 
-// The nested search of an entry: arrival boxes ascending and successor cells ascending, left by the label at the first unlisted
-// or not lower successor. Each lookup is counted, the failing one too; a box of which every successor passes is counted as it is looked
-// up as a whole. `low` and `high` are the ends of the entry's image before arrivals, `count` is the lookups before it; `runs` is room for
-// the starts of the runs of a box.
+// The search of an entry: arrival boxes ascending and successor cells ascending, up to the first unlisted or not lower successor. Each lookup
+// is counted, the refused one too. `ends` has the ends of the entry's image before arrivals, `count` is the lookups before it; `runs` is room
+// for the starts of the runs of a box.
 pub fn search_boxes(
-    s: &[u8],
-    task: Task,
-    links: usize,
-    caps: &[usize; limits::MAX_LINKS],
-    counts: &[usize; limits::MAX_LINKS],
-    ranks: &[u32; rank_table::RANKS],
-    digits: &[u8; cells::DIGITS],
-    edges: &[usize; edges_table::EDGES],
-    arrivals: &[usize; amounts::ARRIVALS],
-    runs: &mut [u16],
-    low: &[usize; limits::MAX_LINKS],
-    high: &[usize; limits::MAX_LINKS],
+    entry: &Entry<'_>,
+    ends: &Ends,
+    runs: &mut [u16; limits::MAX_CELLS],
     count: u32,
-) -> Searched
-    requires { TablesOf s.now links counts.now caps.now edges.now arrivals.now × RanksOf s.now ranks.now × DigitsOf s.now digits.now × IsTask s.now task × EntryEnds s.now task.entry low.now high.now × (count ≤ max_boxes * max_cells * task.entry) × (length runs.old ≡ max_cells) }
-    ensures { (result.report ≡ boxes_from s.now task.entry 0 count) × (result.report.count ≤ max_boxes * max_cells * (task.entry + 1)) × (length runs.new ≡ max_cells) × (result.report.number ≡ 0 → result.over ≡ entry_overflows s.now task.entry) }
+) -> Result<Searched, Refused>
+    requires { EntryEnds (bytes_of entry.now.tables.now) entry.now.number ends.now × (count ≤ max_boxes * max_cells * entry.now.number) }
+    ensures { (told_after (λ r. r.count) result ≡ boxes_from (bytes_of entry.now.tables.now) entry.now.number 0 count) × ((told_after (λ r. r.count) result).count ≤ max_boxes * max_cells * (entry.now.number + 1)) × IfOk result (λ r. r.over ≡ entry_overflows (bytes_of entry.now.tables.now) entry.now.number) }
 {
-    let mut found = octets::accept();
-    let mut total = count;
-    let mut over = false;
-    let mut first = [0usize; limits::MAX_LINKS];
-    let mut last = [0usize; limits::MAX_LINKS];
-    'search: for b in 0..task.boxes {
-        let exceeds = boxes::box_ranges(
-            s, task, links, caps, counts, edges, arrivals, low, high, b, &mut first, &mut last,
-        );
-        over = over | exceeds;
-        let start = whole_box(s, task, ranks, counts, &first, &last, links, b, runs);
-        total += start.looked;
-        let mut d = start.cell;
-        while d < task.cells {
-            let r = look(s, task, ranks, digits, &first, &last, links, b, d);
-            total += r.looked;
-            if r.number != 0 {
-                found = octets::report(r.number, task.entry, d, 0);
-                break 'search;
-            }
-            d += 1;
-        }
+    let mut searched = Searched { count, over: false };
+    let mut ranges = Ranges {
+        first: [0; limits::MAX_LINKS],
+        last: [0; limits::MAX_LINKS],
+    };
+    for b in 0..entry.tables.certificate.layout.boxes {
+        let exceeds = boxes::box_ranges(entry, ends, b, &mut ranges);
+        searched.over |= exceeds;
+        searched.count = search_box(entry, &ranges, runs, searched.count)?;
     }
-    found.count = total;
-    Searched {
-        report: found,
-        over,
-    }
+    Ok(searched)
 }

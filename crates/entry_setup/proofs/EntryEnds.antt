@@ -4,26 +4,27 @@ use mathlib.Core.List.{List}
 use mathlib.Core.Bool.{Bool, true, not}
 use mathlib.Core.Path.{◌≡◌, refl, sym, ◌∙◌}
 use native.Mathlib.Omega.{arith}
-use Rattle.reading.specs.declared.Layout.{Layout}
 use Rattle.certificate.specs.Facts.{Readable}
-use Rattle.reading.specs.ReadingResults.{LaidOut}
 use Rattle.certificate.proofs.Loops.{sum_same}
-use Rattle.certificate.specs.Layout.{links_of, turns_of, remembers, green_byte_of, shown_before, entries_of, cell_of, mode_of, signal_of}
+use Rattle.certificate.specs.Layout.{remembers, green_byte_of, shown_before, entries_of, cell_of, mode_of, signal_of}
 use Rattle.network.specs.Network.{Network, network_of, entry_limit}
 use Rattle.network.specs.Flow.{sent, passed_in, gross}
 use Rattle.network.specs.Image.{low_corner, high_corner}
 use Rattle.network.specs.Sound.{Joined}
 use Rattle.network.specs.Laws.{Screened}
-use Rattle.screening.specs.NetworkParts.{NetworkAt}
+use Rattle.reading.proofs.Whole.{reads}
+use Rattle.supply.specs.declared.QueueBox.{QueueBox}
 use Rattle.supply.specs.Supply.{WithinCaps, at}
 use Rattle.supply.proofs.LeastNumbers.{least_same}
+use Rattle.images.specs.declared.ends.Ends.{Ends}
 use Rattle.images.specs.Ends.{LimitsFit, EndsBefore}
 use Rattle.network.proofs.Limiting.{plain_limits}
-use Rattle.network.proofs.Screening.{joins_of, entry_sound}
+use Rattle.network.proofs.Screening.{joins_of, entry_sound, screening_is_plain}
 use Rattle.grid.specs.Cells.{interval_in}
 use Rattle.grid.proofs.Edges.{upper_most, cell_lower_below_upper}
-use Rattle.octets.specs.Tables.{Holds}
 use Rattle.octets.proofs.Cases.{not_yes}
+use Rattle.entry_setup.specs.declared.Tables.{Tables}
+use Rattle.entry_setup.specs.Bytes.{bytes_of}
 use Rattle.entry_setup.specs.Tables.{CellEdges, limit_by, EntryLimits, EntryEnds}
 
 -- what a link sends, and so the next queue of a link, depends on the limits and the queues of the network's links alone
@@ -61,43 +62,37 @@ own_byte s e byte memory m none own l =
     let plain = plain_limits s (not_yes memory (remembers s) m none) in
     rw own (plain (signal_of s e) (signal_of s e) l ∙ sym (plain (shown_before s (mode_of s e)) (signal_of s e) l))
 
-pub shown_byte : (s : List ℕ) (e byte mode shown before : ℕ) → byte ≡ green_byte_of s (signal_of s e) → mode ≡ mode_of s e → shown ≡ shown_before s mode
-    → before ≡ green_byte_of s shown → (l : ℕ) → limit_by s before byte l ≡ entry_limit s e l
-shown_byte s e byte mode shown before own m sh b l = rw (b, sh, m, own) refl
+-- judging's tables are of a certificate that passes the tests before 12
+pub screened : (tables : Tables) → Screened (bytes_of tables)
+screened tables = (screening_is_plain (bytes_of tables)).0 tables.screened
 
--- the limits that the code finds are those of the entry, and small
-pub limits_are : (s limits : List ℕ) (e before byte links : ℕ) → ((l : ℕ) → limit_by s before byte l ≡ entry_limit s e l) → links ≡ links_of s
-    → Holds links (limit_by s before byte) limits → EntryLimits s e limits
-limits_are s limits e before byte links same n found l hl = found l (rw n hl) ∙ same l
+module _ (tables : Tables) where
+  abbrev s : List ℕ
+  s = bytes_of tables
 
-pub limits_fit : (s limits : List ℕ) → Screened s → (e : ℕ) → e < entries_of s → EntryLimits s e limits → LimitsFit s limits
-limits_fit s limits S e he L = record { most = λ l hl. omega (arith, L l hl, (entry_sound s S e he).most l hl, S.readable.link l hl) }
+  reads_it : Readable s
+  reads_it = reads tables.certificate.now
 
--- the code's ends are those of the entry's cell
-pub ends_are : (s : List ℕ) → Readable s → (e : ℕ) (limits lower upper low high : List ℕ) → CellEdges s (cell_of s e) lower upper → EntryLimits s e limits
-    → EndsBefore s (at limits) (at lower) (at upper) low high → EntryEnds s e low high
-ends_are s R e limits lower upper low high C L B =
-    record {
-      low_is = λ l hl. B.low_is l hl ∙ gross_same (network_of s) (joins_of s R) _ _ _ _ L (λ k hk. low_same s l _ _ _ _ k (C.lower_is k hk) (C.upper_is k hk)) l hl;
-      high_is = λ l hl. B.high_is l hl ∙ gross_same (network_of s) (joins_of s R) _ _ _ _ L (λ k hk. high_same s l _ _ _ _ k (C.lower_is k hk) (C.upper_is k hk)) l hl;
-      low_most = B.low_most;
-      high_most = B.high_most;
-    }
+  -- the limits are small
+  pub limits_fit : (e : ℕ) (limits : List ℕ) → e < entries_of s → EntryLimits s e limits → LimitsFit s limits
+  limits_fit e limits he L =
+      record { most = λ l hl. omega (arith, L l hl, (entry_sound s (screened tables) e he).most l hl, reads_it.link l hl) }
 
--- the edges of a cell are at most cap
-pub edges_within : (s : List ℕ) → Readable s → (c : ℕ) (lower upper : List ℕ) → CellEdges s c lower upper → WithinCaps s lower × WithinCaps s upper
-edges_within s R c lower upper C = (
-  record { fits = λ l hl. omega (arith, C.lower_is l hl, cell_lower_below_upper s R l hl c, upper_most s R l hl (interval_in s c l)) },
-  record { fits = λ l hl. omega (arith, C.upper_is l hl, upper_most s R l hl (interval_in s c l)) },
-)
+  -- the code's ends are those of the entry's cell
+  pub ends_are : (e : ℕ) (limits : List ℕ) (queues : QueueBox) (ends : Ends) → CellEdges s (cell_of s e) queues → EntryLimits s e limits
+      → EndsBefore s (at limits) queues ends → EntryEnds s e ends
+  ends_are e limits queues ends C L B =
+      record {
+        low_is = λ l hl. B.low_is l hl ∙ gross_same (network_of s) (joins_of s reads_it) _ _ _ _ L (λ k hk. low_same s l _ _ _ _ k (C.lower_is k hk) (C.upper_is k hk)) l hl;
+        high_is = λ l hl. B.high_is l hl ∙ gross_same (network_of s) (joins_of s reads_it) _ _ _ _ L (λ k hk. high_same s l _ _ _ _ k (C.lower_is k hk) (C.upper_is k hk)) l hl;
+        low_most = B.low_most;
+        high_most = B.high_most;
+      }
 
--- the roads of a certificate, as its layout has them
-pub layout_network : (s : List ℕ) (layout : Layout) → Readable s → LaidOut s layout → NetworkAt s layout.turns_start (turns_of s) layout.links
-layout_network s layout R Y =
-    record {
-      readable = R;
-      start_is = Y.turns_start_is;
-      start_most = Y.turns_start_most;
-      turns_is = refl;
-      links_is = Y.links_are;
-    }
+  -- the edges of a cell are at most cap
+  pub edges_within : (c : ℕ) (queues : QueueBox) → CellEdges s c queues → WithinCaps s queues
+  edges_within c queues C =
+      record {
+        lower_fits = λ l hl. omega (arith, C.lower_is l hl, cell_lower_below_upper s reads_it l hl c, upper_most s reads_it l hl (interval_in s c l));
+        upper_fits = λ l hl. omega (arith, C.upper_is l hl, upper_most s reads_it l hl (interval_in s c l));
+      }

@@ -1,4 +1,4 @@
--- The table of arrivals, the edges of a cell, the ends of its image before arrivals, and its task.
+-- The table of arrivals, the edges of a cell, the ends of its image before arrivals, and what is found out of an entry.
 pub mod Arrivals
+pub mod Entries
 pub mod EntryEnds
-pub mod Tasks

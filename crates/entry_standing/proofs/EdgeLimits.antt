@@ -9,14 +9,14 @@ use Rattle.certificate.proofs.Tests.{need_pass, need_fail}
 use lib.ListN.{get_or}
 use Rattle.certificate.specs.Octets.{u16_at}
 use Rattle.certificate.specs.Loops.{every_from}
-use Rattle.certificate.specs.Layout.{plain_mode_size, links_of, link_size, link_at, mode_at, goal_for, cell_of, mode_of, rank_of}
+use Rattle.certificate.specs.Layout.{plain_mode_size, links_of, link_size, link_at, mode_size, mode_at, goal_for, cell_of, mode_of, rank_of}
 use Rattle.certificate.proofs.Loops.{every_turn, every_end}
 use Rattle.certificate.proofs.KindLaws.{one_goal_layout, other_size, plain_size}
 use Rattle.grid.specs.Cells.{upper_of}
 use Rattle.judging.specs.EntryTests.{is_goal, is_ranked, is_safe, standing_fault}
 use Rattle.entry_standing.specs.declared.GoalRow.{GoalRow}
 use Rattle.entry_standing.specs.Standing.{UpperEdges, GoalsIn}
-use Rattle.reading.specs.declared.Certificate.{Certificate}
+use Rattle.entry_standing.specs.declared.Standing.{Standing}
 use native.Mathlib.Omega.{arith}
 use Rattle.certificate.specs.declared.Report.{Report}
 use Rattle.certificate.specs.Checks.{report_with, fine, need}
@@ -42,21 +42,24 @@ pub goal_in_row : (s : List ℕ) (e : ℕ) {row : GoalRow} (l : ℕ) {r : ℕ} �
 goal_in_row s e l R p = p ∙ R.goal_is l
 
 -- where the goals of the entry's mode stand: in H3 in the mode's record, else in those of the links
-module _ (c : Certificate) (e : ℕ) where
+module _ (at : Standing) (e : ℕ) where
   abbrev s : List ℕ
-  s = c.bytes.now
+  s = at.entries.bytes.now
 
-  pub goals_in_mode : {mode o : ℕ} → (c.layout.mode_size ≡ plain_mode_size → ⊥) → mode ≡ mode_of s e → o ≡ mode_at s mode → o ≤ 300000
+  size_is : at.modes.size ≡ mode_size s
+  size_is = rw at.same at at.modes.sized
+
+  pub goals_in_mode : {mode o : ℕ} → (at.modes.size ≡ plain_mode_size → ⊥) → mode ≡ mode_of s e → o ≡ mode_at at.modes.bytes.now mode → o ≤ 300000
       → GoalsIn s e (record { first = o + 4; apart = 2 })
   unfolding goal_for
   goals_in_mode {mode} {o} other m here most =
-      let turns = other_size s (λ same. other (c.laid.mode_size_is ∙ same)) in
-      let at : o ≡ mode_at s (mode_of s e) = here ∙ rw m in
+      let turns = other_size s (λ same. other (size_is ∙ same)) in
+      let place : o ≡ mode_at s (mode_of s e) = (rw at.same at here) ∙ rw m in
       record { first_most = omega arith; apart_most = omega arith; goal_is = λ l. let same : o + 4 + 2 * l ≡ mode_at s (mode_of s e) + (4 + 2 * l) = omega arith in rw (turns, same) }
 
-  pub goals_in_links : {size : ℕ} → c.layout.mode_size ≡ plain_mode_size → size ≡ link_size s → size ≤ 14 → GoalsIn s e (record { first = 19; apart = size })
+  pub goals_in_links : {size : ℕ} → at.modes.size ≡ plain_mode_size → size ≡ link_size s → size ≤ 14 → GoalsIn s e (record { first = 19; apart = size })
   goals_in_links {size} same is most =
-      let one = plain_size s (sym c.laid.mode_size_is ∙ same) in
+      let one = plain_size s (sym size_is ∙ same) in
       record {
         first_most = omega arith;
         apart_most = most;

@@ -9,13 +9,13 @@ ghost use Rattle.listing_text.specs.Laws.{max_listing};
 use certificate::limits;
 use std::io::{self, Read};
 
-// Lists the first n bytes of the input: the text, which has room for every listing, then begins with the whole of it, and the answer
-// is how long that is.
-fn listed(bytes: &[u8], n: usize, text: &mut [u8]) -> usize
-    requires { (n ≤ length bytes.now) × (max_listing ≤ length text.old) }
-    ensures { (result ≤ length text.new) × (take result text.new ≡ listing_of (take n bytes.now)) }
+// Lists the bytes: the text, which has room for every listing, then begins with the whole of it, and the answer is how long that is.
+fn listed(bytes: &[u8], text: &mut [u8]) -> usize
+    requires { max_listing ≤ length text.old }
+    ensures place { result ≤ length text.new }
+    ensures whole { take result text.new ≡ listing_of bytes.now }
 {
-    let report = listing::list(&bytes[0..n], text);
+    let report = listing::list(bytes, text);
     report.a as usize
 }
 
@@ -24,6 +24,6 @@ fn main(rt: HostRuntime) -> io::Result<()> {
     let mut input = rt.reader().take(limits::MAX_LENGTH as u64 + 1);
     input.read_to_end(&mut bytes)?;
     let mut text = [0u8; listing::MAX_TEXT];
-    let end = listed(&bytes, bytes.len(), &mut text);
-    rt.write_all(&text[0..end])
+    let end = listed(&bytes, &mut text);
+    rt.write_all(&text[..end])
 }

@@ -1,7 +1,8 @@
 -- A text sent into the front of a buffer: refused where it is longer, else put there whole. Assumes nothing.
-use mathlib.Core.Path.{◌≡◌, ◌∙◌}
+use mathlib.Core.Path.{◌≡◌, ◌∙◌, ap}
 use mathlib.Core.List.{List}
 use Prim.Native.Nat.{ℕ, ◌≤◌, ◌<◌}
+use native.Mathlib.Omega.{arith}
 use native.Mathlib.Nat.{zero-add}
 use borrow.Author.Tests.{le-leb, lt-leb}
 use lib.ListN.{length}
@@ -9,7 +10,9 @@ use Rattle.certificate.specs.declared.Report.{Report}
 use Rattle.certificate.specs.Checks.{report_with, refusal, need}
 use Rattle.judging.specs.Verdict.{verdict_of}
 use Rattle.judging.specs.Overflow.{overflows_of}
-use Rattle.text.specs.TextPut.{written, Put}
+use Rattle.text.specs.declared.Writer.{Writer}
+use Rattle.text.specs.TextPut.{written}
+use Rattle.text.specs.Writing.{Writes}
 use Rattle.listing_text.specs.Listing.{text_of, listing_of, send_report, send_buffer, Sent}
 
 module _ {text buffer : List ℕ} {answer : Report} where
@@ -18,13 +21,15 @@ module _ {text buffer : List ℕ} {answer : Report} where
   unfolding send_report send_buffer need
   refuses short e = record { report = rw (lt-leb (length text) (length buffer) short) e; bytes = rw (lt-leb (length text) (length buffer) short) }
 
-  pub sends : {after : List ℕ} {next : ℕ} → length text ≤ length buffer → Put buffer 0 text after next → answer ≡ report_with 0 (length text) 0 0
-      → Sent text buffer after answer
+  -- a text that a writer put from the front on
+  pub sends : {start end : Writer} {after : List ℕ} → length text ≤ length start.buffer.now → start.buffer.now ≡ buffer → start.at ≡ 0 → Writes start text end
+      → after ≡ end.buffer.now → answer ≡ report_with 0 (length text) 0 0 → Sent text buffer after answer
   unfolding send_report send_buffer need written
-  sends fits w e =
+  sends {start} fits same front w last e =
+      let room : length text ≤ length buffer = omega (arith, ap length same) in
       record {
-        report = rw (le-leb (length text) (length buffer) fits) e;
-        bytes = rw (le-leb (length text) (length buffer) fits) (w.bytes ∙ rw zero-add);
+        report = rw (le-leb (length text) (length buffer) room) e;
+        bytes = rw (le-leb (length text) (length buffer) room) (last ∙ w.put.bytes ∙ rw (same, front, zero-add));
       }
 
 -- what is sent under the verdict is the listing

@@ -1,32 +1,34 @@
 // The text of a listing, put into a lent buffer: the whole of it, or nothing where the buffer is shorter (refusal 17).
 ghost use Rattle.std.specs.Prelude.{◌≡◌, ◌≤◌, length};
-ghost use Rattle.text.specs.TextPut.{Room, Put};
+ghost use Rattle.text.specs.Writing.{HasRoom, Writes};
 ghost use Rattle.listing.specs.Entries.{EntriesAt};
 ghost use Rattle.listing_text.specs.Lines.{refused_line};
 ghost use Rattle.listing_text.specs.Listing.{accepted_text, Sent};
 ghost use Rattle.octets.specs.Bounds.{offset_bound};
 
 use certificate::Report;
-use listing_lines::{lengths, lines};
+use listing_lines::line::{line_length, put_line};
+use listing_lines::{entries, lines};
+use text::Writer;
 
 // The text of an accepted certificate: how long it is.
 fn text_length(s: &[u8], start: usize, report: Report, overflows: u32) -> usize
     requires { EntriesAt s.now start }
     ensures { (result ≡ length (accepted_text s.now report overflows)) × (result ≤ offset_bound) }
 {
-    lengths::counts_length(s)
-        + lengths::entries_length(s, start, header_record::entries_of(s))
-        + lengths::accepted_length(report, overflows)
+    line_length(&lines::counts_line(s))
+        + entries::entries_length(s, start, header_record::entries_of(s))
+        + line_length(&lines::accepted_line(report, overflows))
 }
 
-// The text of an accepted certificate, in the front of the buffer.
-fn put_text(buffer: &mut [u8], s: &[u8], start: usize, report: Report, overflows: u32) -> usize
-    requires { EntriesAt s.now start × Room buffer.old 0 (accepted_text s.now report overflows) }
-    ensures { Put buffer.old 0 (accepted_text s.now report overflows) buffer.new result }
+// The text of an accepted certificate, put into the buffer.
+fn put_text(writer: &mut Writer, s: &[u8], start: usize, report: Report, overflows: u32)
+    requires { EntriesAt s.now start × HasRoom writer.old (accepted_text s.now report overflows) }
+    ensures { Writes writer.old (accepted_text s.now report overflows) writer.new }
 {
-    let first = lines::put_counts(buffer, 0, s);
-    let last = lines::put_entries(buffer, first, s, start, header_record::entries_of(s));
-    lines::put_accepted(buffer, last, report, overflows)
+    put_line(writer, &lines::counts_line(s));
+    entries::put_entries(writer, s, start, header_record::entries_of(s));
+    put_line(writer, &lines::accepted_line(report, overflows));
 }
 
 // The listing of an accepted certificate. `start` is where the records of its entries begin, `overflows` how many of them may turn arrivals away.
@@ -44,7 +46,8 @@ pub fn render_accepted(
     if buffer.len() < size {
         return octets::refuse(17, 0);
     }
-    put_text(buffer, s, start, report, overflows);
+    let mut writer = Writer { buffer, at: 0 };
+    put_text(&mut writer, s, start, report, overflows);
     octets::report(0, size, 0, 0)
 }
 
@@ -52,10 +55,12 @@ pub fn render_accepted(
 pub fn render_refused(report: Report, buffer: &mut [u8]) -> Report
     ensures { Sent (refused_line report) buffer.old buffer.new result }
 {
-    let size = lengths::refused_length(report);
+    let line = lines::refused_line(report);
+    let size = line_length(&line);
     if buffer.len() < size {
         return octets::refuse(17, 0);
     }
-    lines::put_refused(buffer, 0, report);
+    let mut writer = Writer { buffer, at: 0 };
+    put_line(&mut writer, &line);
     octets::report(0, size, 0, 0)
 }

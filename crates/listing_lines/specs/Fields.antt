@@ -1,7 +1,9 @@
--- The numbers of an entry's line, as the code has them.
-use Rattle.std.specs.Prelude.{ℕ, List, [], ◌∷◌}
-use Rattle.certificate.specs.Layout.{cell_of, mode_of, signal_of, next_mode_of, rank_of}
+-- A line as the code has it.
+use Rattle.std.specs.Prelude.{ℕ, List, [], ◌∷◌, ◌++◌}
+use Rattle.listing_text.specs.Text.{decimal, line_feed}
+use Rattle.listing_lines.specs.declared.line.Field.{Field}
 
--- the numbers of that line
-abbrev pub entry_numbers : List ℕ → ℕ → List ℕ
-entry_numbers s e = cell_of s e ∷ mode_of s e ∷ signal_of s e ∷ next_mode_of s e ∷ rank_of s e ∷ []
+-- each number with the word before it, and then a line feed
+unfoldable pub line_of : List Field → List ℕ
+line_of [] = line_feed
+line_of (f ∷ fs) = f.0.now ++ (decimal f.1 ++ line_of fs)

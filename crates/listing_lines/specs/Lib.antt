@@ -1,2 +1,2 @@
--- The numbers of an entry's line, as the code has them.
+-- A line as the code has it.
 pub mod Fields

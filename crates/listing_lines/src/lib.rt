@@ -1,6 +1,6 @@
-// The lines of a listing: how long each is, and putting it into a lent buffer.
+// The lines of a listing: what each is made of, how long it is, and putting it into a lent buffer.
 #![tactic(auto)]
 
-mod fields;
-pub mod lengths;
+pub mod entries;
+pub mod line;
 pub mod lines;

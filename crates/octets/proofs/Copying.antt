@@ -1,21 +1,11 @@
--- A loop that copies a list into the front of another, one store a turn: after n turns it is `take n s ++ drop n d`. Assumes nothing.
-use mathlib.Core.Path.{◌≡◌, refl, ap}
-use mathlib.Core.List.{List, [], ◌∷◌, ◌++◌, append-nil}
-use Prim.Native.Nat.{ℕ, zero, suc, ◌+◌, ◌-◌, ◌<◌}
-use native.Mathlib.Nat.{not-suc-le-zero, le_of_suc-le-suc, sub-zero, zero-sub, suc-sub-suc}
-use native.Mathlib.Numerals.{add-one}
+-- A list copied into the front of another. Assumes nothing.
+use mathlib.Core.Path.{◌≡◌}
+use mathlib.Core.List.{List, [], ◌++◌, append-nil}
+use Prim.Native.Nat.{ℕ, zero, suc, ◌+◌, ◌-◌}
+use native.Mathlib.Nat.{sub-zero, zero-sub, suc-sub-suc}
 use native.Mathlib.Omega.{arith}
-use lib.ListN.{length, set, take, drop, get_or, replicate, length-drop, drop_of_length-le}
+use lib.ListN.{length, take, drop, replicate, length-drop, drop_of_length-le}
 use lib.Seq.{take-length, take_all, drop-drop}
-
-copy_suc : (n : ℕ) (s d : List ℕ) → n < length s → n < length d → set (take n s ++ drop n d) n (get_or s n 0) ≡ take (suc n) s ++ drop (suc n) d
-copy_suc n [] d k l = absurd (not-suc-le-zero k)
-copy_suc n (y ∷ s) [] k l = absurd (not-suc-le-zero l)
-copy_suc zero (y ∷ s) (x ∷ d) k l = refl
-copy_suc (suc n) (y ∷ s) (x ∷ d) k l = ap (λ (t : List ℕ). y ∷ t) (copy_suc n s d (le_of_suc-le-suc k) (le_of_suc-le-suc l))
-
-pub copy_more : (n : ℕ) (s d : List ℕ) → n < length s → n < length d → set (take n s ++ drop n d) n (get_or s n 0) ≡ take (n + 1) s ++ drop (n + 1) d
-copy_more n s d k l = rw add-one (copy_suc n s d k l)
 
 drop-replicate : (n m v : ℕ) → drop n (replicate m v) ≡ replicate (m - n) v
 drop-replicate zero m v = rw sub-zero

@@ -1,6 +1,6 @@
 -- Outcomes of tests: what a test that is left by `?` tells, what follows one that passes, and loops of tests. Assumes nothing.
 use Rattle.std.proofs.Common.{ℕ, ◌≡◌, ◌+◌, ◌-◌, ◌≤◌, ◌<◌, suc, refl, sym, ap, ◌∙◌, Bool, true, false, arith}
-use Rattle.std.specs.Prelude.{Result, eqb}
+use Rattle.std.specs.Prelude.{Result, IfOk}
 use Rattle.std.specs.Result.{IsErrAnd}
 use Rattle.std.proofs.lemmas.Result.{err_from_is_err_and}
 use Rattle.certificate.specs.declared.Report.{Report}
@@ -9,7 +9,7 @@ use Rattle.certificate.proofs.Tests.{or_next, or_stop, first_turn, first_end}
 use Rattle.octets.specs.declared.refusals.Refusal.{Refusal}
 use Rattle.octets.specs.declared.refusals.Refusal.TheVariants.{Short, Mark, Header, Link, Turn, Signal, Grid, Arrivals, Names, PullSum, Room, Unsafe, Rank, Unlisted, NotLower, Improper, NoRoom, NoCertificate, NoEntry, BadReading, NoReading, Order, Memory, Goal}
 use Rattle.octets.specs.declared.refusals.Refused.{Refused}
-use Rattle.octets.specs.Refusals.{number_of, report_of, told}
+use Rattle.octets.specs.Refusals.{number_of, report_of, told, told_after}
 
 -- no refusal has the number of success
 pub refuses : (why : Refusal) → number_of why ≡ 0 → ⊥
@@ -52,6 +52,13 @@ then_next f g r p q = q ∙ sym (or_next f g (sym (ap (λ (r : Report). r.number
 -- a call that refuses is left by `?`: its refusal is told
 pub left : {T : Type 0} (r : Result T Refused) (e : Refused) → IsErrAnd r (λ x. x ≡ e) → (f : Report) → report_of e ≡ f → told r ≡ f
 left r e h f p = let q = err_from_is_err_and r h in rw (q.1, q.2) p
+
+-- the same of an outcome that counts; and nothing is said of success
+pub left_after : {T : Type 0} (count : T → ℕ) (r : Result T Refused) (e : Refused) → IsErrAnd r (λ x. x ≡ e) → (f : Report) → report_of e ≡ f → told_after count r ≡ f
+left_after count r e h f p = let q = err_from_is_err_and r h in rw (q.1, q.2) p
+
+pub not_ok : {T : Type 0} (r : Result T Refused) (e : Refused) (P : T → Type 0) → IsErrAnd r (λ x. x ≡ e) → IfOk r P
+not_ok r e P h = let q = err_from_is_err_and r h in rw q.1 tt
 
 -- the same, where other tests follow
 pub left_first : {T : Type 0} (r : Result T Refused) (e : Refused) → IsErrAnd r (λ x. x ≡ e) → (f g : Report) → report_of e ≡ f → told r ≡ or_else f g

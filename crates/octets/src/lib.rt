@@ -18,7 +18,7 @@ pub fn byte_at(s: &[u8], at: usize) -> usize
     ensures { (result ≡ byte_at s.now at) × (result < 256) }
 {
     if at < s.len() {
-        numbers::wide(s[at])
+        usize::from(s[at])
     } else {
         0
     }
@@ -37,7 +37,7 @@ pub fn byte_within(s: &[u8], at: usize) -> usize
     requires { at < length s.now }
     ensures { (result ≡ byte_at s.now at) × (result < 256) }
 {
-    numbers::wide(s[at])
+    usize::from(s[at])
 }
 
 pub fn u16_within(s: &[u8], at: usize) -> usize

@@ -1,6 +1,5 @@
 -- Ranges of intervals, and the runs of cells in them.
 pub mod Ranging
 pub mod Jumps
-pub mod Runs
 pub mod Counting
 pub mod Lists

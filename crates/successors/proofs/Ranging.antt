@@ -16,6 +16,7 @@ use Rattle.certificate.proofs.Loops.{every-each, each-every}
 use Rattle.grid.specs.Intervals.{lower_edge, upper_edge}
 use Rattle.grid.specs.Successors.{image_low, image_high, meets, is_successor}
 use Rattle.octets.specs.Tables.{Holds}
+use Rattle.successors.specs.declared.ranges.Ranges.{Ranges}
 use Rattle.successors.specs.Ranges.{low_meets, IsFirst, IsLast, in_ranges, RangesOf}
 use Rattle.grid.proofs.Numbers.{is_choice}
 use Rattle.grid.proofs.Edges.{upper_inner, upper_last, upper_most, cuts_ascend}
@@ -133,14 +134,14 @@ meets_parts : (s : List ℕ) (l i low high : ℕ) → meets s l i low high ≡ (
 unfolding meets low_meets
 meets_parts s l i low high = refl
 
-pub range_meets : (s low high first last : List ℕ)
-    → ((l : ℕ) → l < links_of s → IsFirst s l (get_or low l 0) (get_or first l 0))
-    → ((l : ℕ) → l < links_of s → IsLast s l (get_or high l 0) (get_or last l 0))
-    → RangesOf s low high first last
-range_meets s low high first last F L =
+pub range_meets : (s low high : List ℕ) (ranges : Ranges)
+    → ((l : ℕ) → l < links_of s → IsFirst s l (get_or low l 0) (get_or ranges.first l 0))
+    → ((l : ℕ) → l < links_of s → IsLast s l (get_or high l 0) (get_or ranges.last l 0))
+    → RangesOf s low high ranges
+range_meets s low high ranges F L =
     record {
       bounded = record { first_most = λ l lt. (F l lt).most; last_most = λ l lt. (L l lt).most };
-      meet = λ l i lt h. meets_parts s l i _ _ ∙ rw (← (L l lt).to i h, ← (F l lt).from i h) (and_swap (leb i (get_or last l 0)) (leb (get_or first l 0) i));
+      meet = λ l i lt h. meets_parts s l i _ _ ∙ rw (← (L l lt).to i h, ← (F l lt).from i h) (and_swap (leb i (get_or ranges.last l 0)) (leb (get_or ranges.first l 0) i));
     }
 
 pub same_test : (a b : Bool) → (a ≡ true → b ≡ true) → (b ≡ true → a ≡ true) → a ≡ b
@@ -155,9 +156,9 @@ every_same n p q h =
     (λ e. each-every n p (λ k lt. h k lt ∙ every-each n q e k lt))
 
 -- the successors are the cells in the ranges of the image
-pub successor_in_ranges : (s : List ℕ) → Readable s → (limit : ℕ → ℕ) (b c : ℕ) (low high first last : List ℕ)
+pub successor_in_ranges : (s : List ℕ) → Readable s → (limit : ℕ → ℕ) (b c : ℕ) (low high : List ℕ) (ranges : Ranges)
     → Holds (links_of s) (image_low s limit b c) low → Holds (links_of s) (image_high s limit b c) high
-    → RangesOf s low high first last → (d : ℕ) → is_successor s limit b c d ≡ in_ranges s first last d
+    → RangesOf s low high ranges → (d : ℕ) → is_successor s limit b c d ≡ in_ranges s ranges d
 unfolding is_successor in_ranges
-successor_in_ranges s R limit b c low high first last hl hh M d =
+successor_in_ranges s R limit b c low high ranges hl hh M d =
     every_same (links_of s) _ _ (λ l lt. rw (← hl l lt, ← hh l lt) (M.meet l _ lt (is_choice s R d l lt)))

@@ -2,16 +2,16 @@
 // link: with one link more, each is taken times the link's interval count, plus its interval, for every interval of its range. From the
 // run link on only the first interval is taken, since a run has the others. The list is not in order: it has a row of numbers for each
 // interval of a link, the rows of later links outside.
-ghost use Rattle.std.specs.Prelude.{◌≡◌, ℕ, ◌+◌, ◌*◌, ◌-◌, ◌<◌, ◌≤◌, length, get_or};
-ghost use Rattle.certificate.specs.Facts.{Readable};
-ghost use Rattle.certificate.specs.Layout.{max_intervals, max_cells, links_of};
+ghost use Rattle.std.specs.Prelude.{◌≡◌, ◌⊎◌, ℕ, ◌+◌, ◌*◌, ◌-◌, ◌<◌, ◌≤◌, get_or};
+ghost use Rattle.certificate.specs.Layout.{max_intervals, max_cells};
 ghost use Rattle.cell_tables.specs.Tables.{CountsOf};
 ghost use Rattle.successors.specs.Ranges.{Bounded, RunsOf};
 
+use crate::ranges::Ranges;
 use crate::seek;
 use cell_tables::queues;
 use certificate::limits;
-use octets::numbers;
+use reading::Certificate;
 
 // How many runs there are, and how many cells each has.
 #[derive(Clone, Copy)]
@@ -25,82 +25,70 @@ fn longer(number: u16, count: u16, i: u16) -> u16
     requires { number * count + i ≤ max_cells }
     ensures { result ≡ number * count + i }
 {
-    queues::with_link(
-        numbers::wide_pair(number),
-        numbers::wide_pair(count),
-        numbers::wide_pair(i),
-    ) as u16
+    queues::with_link(usize::from(number), usize::from(count), usize::from(i)) as u16
 }
 
-// A row behind the list: its first n numbers with interval i of a link more.
-fn row(starts: &mut [u16], n: usize, at: usize, count: u16, i: u16)
-    requires { (length starts.old ≡ max_cells) × (n ≤ at) × (at + n ≤ max_cells) × ((m : ℕ) → m < n → get_or starts.old m 0 * count + i ≤ max_cells) }
-    ensures { (length starts.new ≡ max_cells) × ((m : ℕ) → m < n → get_or starts.new (at + m) 0 ≡ get_or starts.old m 0 * count + i) × ((m : ℕ) → m < at → get_or starts.new m 0 ≡ get_or starts.old m 0) }
+// A row of the list, behind its first n numbers or in their place: these numbers with interval i of a link more.
+fn row(starts: &mut [u16; limits::MAX_CELLS], n: usize, at: usize, count: u16, i: u16)
+    requires { ((at ≡ 0) ⊎ (n ≤ at)) × (at + n ≤ max_cells) × ((m : ℕ) → m < n → get_or starts.old m 0 * count + i ≤ max_cells) }
+    ensures { ((m : ℕ) → m < n → get_or starts.new (at + m) 0 ≡ get_or starts.old m 0 * count + i) × ((m : ℕ) → (m < at) ⊎ (at + n ≤ m) → get_or starts.new m 0 ≡ get_or starts.old m 0) }
 {
     for m in 0..n {
         starts[at + m] = longer(starts[m], count, i);
     }
 }
 
-// The same in place of the first n numbers.
-fn first_row(starts: &mut [u16], n: usize, count: u16, i: u16)
-    requires { (length starts.old ≡ max_cells) × (n ≤ max_cells) × ((m : ℕ) → m < n → get_or starts.old m 0 * count + i ≤ max_cells) }
-    ensures { (length starts.new ≡ max_cells) × ((m : ℕ) → m < n → get_or starts.new m 0 ≡ get_or starts.old m 0 * count + i) × ((m : ℕ) → n ≤ m → get_or starts.new m 0 ≡ get_or starts.old m 0) }
-{
-    for m in 0..n {
-        starts[m] = longer(starts[m], count, i);
-    }
-}
-
 // The n numbers of the list with one link more, for its intervals from .. to: a row for each. The answer is how many they are.
-fn widen(starts: &mut [u16], n: usize, count: u16, from: usize, to: usize) -> usize
-    requires { (length starts.old ≡ max_cells) × (from ≤ to) × (to ≤ max_intervals) × ((to + 1 - from) * n ≤ max_cells) × ((m : ℕ) → m < n → get_or starts.old m 0 * count + to ≤ max_cells) }
-    ensures { (length starts.new ≡ max_cells) × (result ≡ (to + 1 - from) * n) × ((j m : ℕ) → from ≤ j → j ≤ to → m < n → get_or starts.new ((j - from) * n + m) 0 ≡ get_or starts.old m 0 * count + j) }
+fn widen(
+    starts: &mut [u16; limits::MAX_CELLS],
+    n: usize,
+    count: u16,
+    from: usize,
+    to: usize,
+) -> usize
+    requires { (from ≤ to) × (to ≤ max_intervals) × ((to + 1 - from) * n ≤ max_cells) × ((m : ℕ) → m < n → get_or starts.old m 0 * count + to ≤ max_cells) }
+    ensures { (result ≡ (to + 1 - from) * n) × ((j m : ℕ) → from ≤ j → j ≤ to → m < n → get_or starts.new ((j - from) * n + m) 0 ≡ get_or starts.old m 0 * count + j) }
 {
     let mut at = n;
-    let mut i = from;
-    while i < to {
-        i += 1;
+    for i in from + 1..to + 1 {
         row(starts, n, at, count, i as u16);
         at += n;
     }
-    first_row(starts, n, count, from as u16);
+    row(starts, n, 0, count, from as u16);
     at
 }
 
 // The runs of cells in the ranges: the list is filled with their starts. Before the run link every interval of a range is listed; from
 // there on the first alone, and a run has as many cells as the ranges of these links have intervals, multiplied.
-pub fn runs_of<'a>(
-    s: &[u8],
+pub fn runs_of(
+    certificate: &Certificate<'_>,
     counts: &[usize; limits::MAX_LINKS],
-    first: &'a [usize; limits::MAX_LINKS],
-    last: &'a [usize; limits::MAX_LINKS],
-    links: usize,
-    starts: &mut [u16],
+    ranges: &Ranges,
+    starts: &mut [u16; limits::MAX_CELLS],
 ) -> Runs
-    requires { Readable s.now × CountsOf s.now counts.now × (links ≡ links_of s.now) × Bounded s.now first.now last.now × (length starts.old ≡ max_cells) }
-    ensures { (length starts.new ≡ max_cells) × RunsOf s.now first.now last.now starts.new result.count result.size }
+    requires { CountsOf certificate.now.bytes.now counts.now × Bounded certificate.now.bytes.now ranges.now }
+    ensures { RunsOf certificate.now.bytes.now ranges.now starts.new result.count result.size }
 {
-    let run = seek::run_link(s, counts, first, last, links);
+    let run = seek::run_link(certificate, counts, ranges);
     starts[0] = 0;
     let mut count = 1;
     for l in 0..run {
-        let from = first[l];
-        let to = last[l];
+        let from = ranges.first[l];
+        let to = ranges.last[l];
         if to < from {
             return Runs { count: 0, size: 0 };
         }
         count = widen(starts, count, counts[l] as u16, from, to);
     }
     let mut size = 1;
-    for l in run..links {
-        let from = first[l];
-        let to = last[l];
+    for l in run..certificate.layout.links {
+        let from = ranges.first[l];
+        let to = ranges.last[l];
         if to < from {
             return Runs { count: 0, size: 0 };
         }
-        size = size * (to + 1 - from);
-        first_row(starts, count, counts[l] as u16, from as u16);
+        size *= to + 1 - from;
+        row(starts, count, 0, counts[l] as u16, from as u16);
     }
     Runs { count, size }
 }

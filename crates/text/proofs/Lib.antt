@@ -1,4 +1,4 @@
--- Digits, numbers, and text at a place of a buffer.
-pub mod Numbers
+-- Digits, text at a place of a buffer, and texts one after another.
 pub mod Placing
+pub mod Written
 pub mod Digits

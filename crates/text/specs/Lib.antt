@@ -1,3 +1,3 @@
--- A line of numbers as the code writes it, and where it is written.
-pub mod NumberLines
+-- Where a text is written, and what a writer wrote.
 pub mod TextPut
+pub mod Writing

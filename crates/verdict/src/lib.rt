@@ -1,266 +1,145 @@
 // The verdict of any bytes: all tests before 12, then every entry in order; and how many entries may turn arrivals away.
 #![tactic(auto)]
 
-ghost use Rattle.std.specs.Prelude.{◌≡◌, ◌+◌, ◌*◌, ◌<◌, ◌≤◌, length};
-ghost use Rattle.certificate.specs.Loops.{pick};
-ghost use Rattle.certificate.specs.Layout.{max_boxes, max_modes, max_cells, entries_of, rank_of, boxes_of, cells_of};
-ghost use Rattle.certificate.specs.Facts.{Readable};
-ghost use Rattle.reading.specs.ReadingResults.{LaidOut, ReadAs};
-ghost use Rattle.network.specs.Laws.{Screened};
-ghost use Rattle.supply.specs.Supply.{FirstTurns};
-ghost use Rattle.cell_tables.specs.Tables.{DigitsOf};
+ghost use Rattle.std.specs.Prelude.{◌≡◌, ◌+◌, ◌*◌, ◌<◌, ◌≤◌, IfOk};
+ghost use Rattle.certificate.specs.Layout.{max_boxes, max_modes, max_cells, entries_of, boxes_of, cells_of};
+ghost use Rattle.network.specs.Conditions.{screening_of};
 ghost use Rattle.rank_tables.specs.Index.{RanksOf};
-ghost use Rattle.judging.specs.EntryTests.{standing_fault, judging_from};
-ghost use Rattle.entry_standing.specs.Where.{UpperEdges};
-ghost use Rattle.entry_setup.specs.Tables.{TablesOf};
-ghost use Rattle.verdict.specs.Entries.{entry_alone, JudgedAs};
+ghost use Rattle.judging.specs.EntryTests.{judging_from};
 ghost use Rattle.judging.specs.Verdict.{verdict_of};
 ghost use Rattle.judging.specs.Overflow.{entry_overflows, overflows_of};
+ghost use Rattle.octets.specs.Refusals.{told_after};
+ghost use Rattle.entry_setup.specs.Bytes.{bytes_of};
+ghost use Rattle.verdict.specs.Entries.{entry_alone, JudgedAs, verdict_told, overflows_in, judged_as};
 
-use cell_tables::{digits as cells, tables};
-use certificate::{Report, limits};
-use entry_records::entries;
-use entry_search::search;
-use entry_setup::{amounts, entry};
+use cell_tables::{digits, tables as cell_tables_of};
+use certificate::limits;
+use entry_search::search::{self, Searched};
+use entry_setup::{Entry, Tables, amounts, entry};
+use entry_standing::Standing;
+use images::ends::Ends;
+use octets::refusals::Refused;
 use rank_tables::{index, ranks};
-use reading::{Layout, Reading};
+use reading::Certificate;
+use supply::QueueBox;
 
-// The verdict: the report, and in an acceptance the number of entries that may turn arrivals away (0 in a refusal).
+// What an acceptance says: how many successors were looked up, and how many entries may turn arrivals away.
 #[derive(Clone, Copy)]
-pub struct Verdict {
-    pub report: Report,
+pub struct Accepted {
+    pub count: u32,
     pub overflows: u32,
 }
 
-// The verdict with the layout of an accepted certificate.
+// The verdict with the certificate that is accepted.
 #[derive(Clone, Copy)]
-pub struct Judged {
-    pub reading: Reading,
-    pub overflows: u32,
+pub struct Judged<'a> {
+    pub certificate: Certificate<'a>,
+    pub accepted: Accepted,
 }
 
-// The verdict of a refusal.
-pub fn refused(report: Report) -> Verdict
-    ensures { (result.report ≡ report) × (result.overflows ≡ 0) }
-{
-    let overflows = 0;
-    Verdict { report, overflows }
-}
-
-// How entry e stands (12, 13), given its rank and the upper edges of its cell.
-fn standing(
-    s: &[u8],
-    layout: Layout,
-    e: usize,
-    rank: usize,
-    upper: &[usize; limits::MAX_LINKS],
-    count: u32,
-) -> Report
-    requires { Readable s.now × LaidOut s.now layout × (e < entries_of s.now) × (rank ≡ rank_of s.now e) × UpperEdges s.now e upper.now }
-    ensures { result ≡ standing_fault s.now e count }
-{
-    let at = entry_standing::Where {
-        links: layout.links,
-        modes_start: layout.modes_start,
-        mode_size: layout.mode_size,
-        entries_start: layout.entries_start,
-    };
-    entry_standing::check_standing(s, at, e, rank, upper, count)
-}
-
-// One entry judged alone: its standing, then its successors.
+// One entry judged alone: its standing (12, 13), then its successors. `runs` is room for the starts of the runs of a box.
 fn judge_entry(
-    s: &[u8],
-    layout: Layout,
-    counts: &[usize; limits::MAX_LINKS],
-    caps: &[usize; limits::MAX_LINKS],
-    first_turns: &[usize; limits::MAX_LINKS + 1],
-    ranks: &[u32; ranks::RANKS],
-    digits: &[u8; cells::DIGITS],
-    edges: &[usize; tables::EDGES],
-    arrivals: &[usize; amounts::ARRIVALS],
-    runs: &mut [u16],
+    tables: &Tables<'_>,
     e: usize,
     count: u32,
-) -> search::Searched
-    requires { LaidOut s.now layout × TablesOf s.now layout.links counts.now caps.now edges.now arrivals.now × FirstTurns s.now first_turns.now × RanksOf s.now ranks.now × (e < entries_of s.now) × (count ≤ max_boxes * max_cells * e) × DigitsOf s.now digits.now × (length runs.old ≡ max_cells) }
-    ensures { (result.report ≡ entry_alone s.now e count) × (result.report.count ≤ max_boxes * max_cells * (e + 1)) × (length runs.new ≡ max_cells) × (result.report.number ≡ 0 → result.over ≡ entry_overflows s.now e) }
+    runs: &mut [u16; limits::MAX_CELLS],
+) -> Result<Searched, Refused>
+    requires { (e < entries_of (bytes_of tables.now)) × (count ≤ max_boxes * max_cells * e) }
+    ensures told { told_after (λ r. r.count) result ≡ entry_alone (bytes_of tables.now) e count }
+    ensures most { (told_after (λ r. r.count) result).count ≤ max_boxes * max_cells * (e + 1) }
+    ensures over { IfOk result (λ r. r.over ≡ entry_overflows (bytes_of tables.now) e) }
 {
-    let task = entry::task_of(s, layout, e);
-    let c = entries::cell_of(s, layout.entries_start, e);
-    let mut lower = [0usize; limits::MAX_LINKS];
-    let mut upper = [0usize; limits::MAX_LINKS];
-    entry::cell_edges(s, digits, edges, layout.links, c, &mut lower, &mut upper);
-    let f = standing(s, layout, e, task.rank, &upper, count);
-    if f.number != 0 {
-        return search::Searched {
-            report: f,
-            over: false,
-        };
-    }
-    let mut low = [0usize; limits::MAX_LINKS];
-    let mut high = [0usize; limits::MAX_LINKS];
-    entry::entry_ends(
-        s,
-        layout,
-        first_turns,
-        e,
-        &lower,
-        &upper,
-        &mut low,
-        &mut high,
-    );
-    search::search_boxes(
-        s,
-        task,
-        layout.links,
-        caps,
-        counts,
-        ranks,
-        digits,
-        edges,
-        arrivals,
-        runs,
-        &low,
-        &high,
-        count,
-    )
-}
-
-// 1 for an entry that may turn arrivals away, else 0.
-fn counted(over: bool) -> u32
-    ensures { result ≡ pick over 1 0 }
-{
-    if over {
-        return 1;
-    }
-    0
+    let certificate = tables.certificate;
+    let entry = Entry::of(tables, e);
+    let mut queues = QueueBox {
+        lower: [0; limits::MAX_LINKS],
+        upper: [0; limits::MAX_LINKS],
+    };
+    entry::cell_edges(tables, certificate.cell_of(e), &mut queues);
+    let standing = Standing {
+        links: certificate.layout.links,
+        modes: certificate.modes(),
+        entries: certificate.entries(),
+    };
+    entry_standing::check_standing(&standing, e, entry.rank, &queues.upper, count)?;
+    let mut ends = Ends {
+        low: [0; limits::MAX_LINKS],
+        high: [0; limits::MAX_LINKS],
+    };
+    entry::entry_ends(tables, e, &queues, &mut ends);
+    search::search_boxes(&entry, &ends, runs, count)
 }
 
 // Entries in order: the first refusal, or accepted with the count and the number of entries that may turn arrivals away.
-fn judge_entries(
-    s: &[u8],
-    layout: Layout,
-    counts: &[usize; limits::MAX_LINKS],
-    caps: &[usize; limits::MAX_LINKS],
-    first_turns: &[usize; limits::MAX_LINKS + 1],
-    ranks: &[u32; ranks::RANKS],
-    digits: &[u8; cells::DIGITS],
-    edges: &[usize; tables::EDGES],
-    arrivals: &[usize; amounts::ARRIVALS],
-    runs: &mut [u16],
-) -> Verdict
-    requires { LaidOut s.now layout × TablesOf s.now layout.links counts.now caps.now edges.now arrivals.now × FirstTurns s.now first_turns.now × RanksOf s.now ranks.now × DigitsOf s.now digits.now × (length runs.old ≡ max_cells) }
-    ensures { JudgedAs s.now (judging_from s.now 0 0) result }
+fn judge_entries(tables: &Tables<'_>) -> Result<Accepted, Refused>
+    ensures { JudgedAs (bytes_of tables.now) (judging_from (bytes_of tables.now) 0 0) result }
 {
-    let entries = layout.entries;
-    let mut count: u32 = 0;
-    let mut overflows: u32 = 0;
-    for e in 0..entries {
-        let r = judge_entry(
-            s,
-            layout,
-            counts,
-            caps,
-            first_turns,
-            ranks,
-            digits,
-            edges,
-            arrivals,
-            runs,
-            e,
-            count,
-        );
-        let report = r.report;
-        if report.number != 0 {
-            return refused(report);
-        }
-        count = report.count;
-        overflows += counted(r.over);
+    let mut runs = [0u16; limits::MAX_CELLS];
+    let mut accepted = Accepted {
+        count: 0,
+        overflows: 0,
+    };
+    for e in 0..tables.certificate.layout.entries {
+        let searched = judge_entry(tables, e, accepted.count, &mut runs)?;
+        accepted.count = searched.count;
+        accepted.overflows += u32::from(searched.over);
     }
-    let report = octets::report(0, 0, 0, count);
-    Verdict { report, overflows }
+    Ok(accepted)
 }
 
 // Fills the table of ranks, by way of the index.
-fn rank_table(s: &[u8], layout: Layout, ranks: &mut [u32])
-    requires { Readable s.now × LaidOut s.now layout × (length ranks.old ≡ max_modes * max_cells) }
-    ensures { RanksOf s.now ranks.new }
+fn rank_table(certificate: &Certificate<'_>, ranks: &mut [u32; ranks::RANKS])
+    ensures { RanksOf certificate.now.bytes.now ranks.new }
 {
-    let start = layout.entries_start;
-    let cells = layout.cells;
-    let index = index::index_of(s, start, layout.entries, cells);
-    ranks::fill_ranks(s, start, layout.entries, layout.modes, cells, &index, ranks);
+    let layout = &certificate.layout;
+    let index = index::index_of(certificate.entries(), layout.entries, layout.cells);
+    ranks::fill_ranks(&index, layout.modes, ranks);
 }
 
 // Makes the tables, once, and judges by them.
-fn judge_screened(s: &[u8], layout: Layout) -> Verdict
-    requires { Screened s.now × LaidOut s.now layout }
-    ensures { JudgedAs s.now (judging_from s.now 0 0) result }
+fn judge_screened(certificate: &Certificate<'_>) -> Result<Accepted, Refused>
+    requires { (screening_of certificate.now.bytes.now).number ≡ 0 }
+    ensures { JudgedAs certificate.now.bytes.now (judging_from certificate.now.bytes.now 0 0) result }
 {
-    let links = layout.links;
-    let places = layout.grids;
-    let counts = tables::counts_of(s, &places, links);
-    let caps = amounts::caps_of(s, links);
-    let first_turns = supply::first_turns(s, layout.turns_start, layout.turns);
-    let mut digits = [0u8; cells::DIGITS];
-    cells::fill_digits(s, &counts, links, layout.cells, &mut digits);
-    let edges = tables::edges_of(s, &places, links);
-    let arrivals = amounts::arrivals_of(s, layout.arrivals_start, links, layout.boxes);
+    let layout = &certificate.layout;
+    let counts = cell_tables_of::counts_of(certificate);
+    let mut digits = [0u8; digits::DIGITS];
+    digits::fill_digits(certificate, &counts, &mut digits);
     let mut ranks = [0u32; ranks::RANKS];
-    rank_table(s, layout, &mut ranks);
-    let mut runs = [0u16; limits::MAX_CELLS];
-    judge_entries(
-        s,
-        layout,
-        &counts,
-        &caps,
-        &first_turns,
-        &ranks,
-        &digits,
-        &edges,
-        &arrivals,
-        &mut runs,
-    )
+    rank_table(certificate, &mut ranks);
+    let tables = Tables {
+        certificate,
+        counts: &counts,
+        caps: &amounts::caps_of(certificate.bytes, layout.links),
+        first_turns: &supply::first_turns(certificate),
+        edges: &cell_tables_of::edges_of(certificate),
+        arrivals: &amounts::arrivals_of(&certificate.arrivals(), layout.boxes),
+        digits: &digits,
+        ranks: &ranks,
+    };
+    judge_entries(&tables)
 }
 
-// The verdict, and the layout where it is no refusal.
-pub fn judge_with_layout(s: &[u8]) -> Judged
-    ensures { ReadAs s.now (verdict_of s.now) result.reading × (result.overflows ≡ overflows_of s.now) }
+// The verdict, and the certificate where it is no refusal.
+pub fn judge_with_layout(s: &[u8]) -> Result<Judged<'_>, Refused>
+    ensures told { verdict_told (judged_as result) ≡ verdict_of s.now }
+    ensures overflows { overflows_in (judged_as result) ≡ overflows_of s.now }
+    ensures bytes { IfOk result (λ judged. judged.certificate.bytes.now ≡ s.now) }
 {
-    let found = screening::screen(s);
-    let f = found.report;
-    if f.number != 0 {
-        return Judged {
-            reading: found,
-            overflows: 0,
-        };
-    }
-    let layout = found.layout;
-    let verdict = judge_screened(s, layout);
-    let report = verdict.report;
-    let overflows = verdict.overflows;
-    if report.number != 0 {
-        return Judged {
-            reading: reading::refused(report),
-            overflows,
-        };
-    }
-    Judged {
-        reading: Reading { report, layout },
-        overflows,
-    }
+    let certificate = screening::screen(s)?;
+    let accepted = judge_screened(&certificate)?;
+    Ok(Judged {
+        certificate,
+        accepted,
+    })
 }
 
 // The verdict.
-pub fn judge(s: &[u8]) -> Verdict
-    ensures { (result.report ≡ verdict_of s.now) × (result.overflows ≡ overflows_of s.now) × (result.report.count ≤ entries_of s.now * boxes_of s.now * cells_of s.now) × (result.overflows ≤ entries_of s.now) }
+pub fn judge(s: &[u8]) -> Result<Accepted, Refused>
+    ensures told { verdict_told result ≡ verdict_of s.now }
+    ensures overflows { overflows_in result ≡ overflows_of s.now }
+    ensures count { (verdict_told result).count ≤ entries_of s.now * boxes_of s.now * cells_of s.now }
+    ensures at_most { overflows_in result ≤ entries_of s.now }
 {
-    let judged = judge_with_layout(s);
-    let found = judged.reading;
-    let report = found.report;
-    Verdict {
-        report,
-        overflows: judged.overflows,
-    }
+    Ok(judge_with_layout(s)?.accepted)
 }

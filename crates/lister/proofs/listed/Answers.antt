@@ -1,11 +1,13 @@
 -- `lister::listed` meets its contract: the text has room, so the whole listing is sent.
-use Rattle.std.proofs.Common.{take, arith}
-use Rattle.std.proofs.Math.Nat.{sub-zero}
+use Rattle.std.proofs.Common.{arith}
+use Rattle.listing_text.specs.Laws.{ListedWhole}
 use Rattle.listing_text.proofs.Listings.{listing_fits, listing_sent}
 use Rattle.lister.proofs.listed.Goals as goal
 
-pub returns : goal.returns
-returns c =
-    let front = take c.args.n c.args.bytes.now in
-    let whole = listing_sent front _ _ _ c.requires.1 (rw sub-zero at c.list-report.ensures) in
-    (omega (arith, whole.place, listing_fits front, c.requires.1), whole.text)
+pub returns-clause-place : goal.returns-clause-place
+returns-clause-place c =
+    let sent : ListedWhole c.args.bytes.now c.list-report.new.buffer c.list-report.result = listing_sent _ _ _ _ c.requires c.list-report.ensures in
+    omega (arith, sent.place, listing_fits c.args.bytes.now)
+
+pub returns-clause-whole : goal.returns-clause-whole
+returns-clause-whole c = (listing_sent _ _ _ _ c.requires c.list-report.ensures).text

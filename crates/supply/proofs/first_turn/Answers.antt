@@ -2,7 +2,7 @@ use Rattle.std.proofs.Common.{◌≡◌, ◌∙◌, ap, arith, rules, tests, leb
 use Rattle.std.proofs.lemmas.Iterator.{first_from_Range, serves_from_Range}
 use Rattle.certificate.specs.Loops.{find}
 use Rattle.certificate.specs.Layout.{from_of}
-use Rattle.supply.proofs.Finding.{find_of}
+use Rattle.octets.proofs.Finding.{find_of}
 use Rattle.supply.proofs.first_turn.Goals as goal
 
 pub find-requires : goal.find-requires

@@ -1,17 +1,13 @@
-use mathlib.Core.Path.{◌≡◌}
+-- `text::decimal_length` meets its contract.
 use native.Mathlib.Omega.{arith}
-use lib.ListN.{length}
-use Rattle.listing_text.specs.Text.{decimal}
-use Rattle.listing_text.proofs.Digits.{length_one, length_step, decimal_fits}
+use Rattle.listing_text.proofs.Digits.{length_one}
+use Rattle.text.proofs.Digits.{length_by_log}
 use Rattle.text.proofs.decimal_length.Goals as goal
 
-pub overflow_add-k : goal.overflow_add-k
-overflow_add-k c = omega (arith, decimal_fits c.args.n)
+pub returns-then-n-lt10 : goal.returns-then-n-lt10
+returns-then-n-lt10 c = omega (arith, length_one c.args.n (omega arith))
 
-pub loop-left-preserved : goal.loop-left-preserved
-loop-left-preserved c = omega (arith, length_step c.loop-left.left (omega arith) (omega arith))
-
-pub returns : goal.returns
-returns c =
-    let one : length (decimal c.loop-left.left) ≡ 1 = length_one c.loop-left.left (omega arith) in
-    omega (arith, decimal_fits c.args.n)
+pub returns-else-n-lt10 : goal.returns-else-n-lt10
+returns-else-n-lt10 c =
+    let log = c.ilog10.ensures in
+    (length_by_log c.args.n _ (omega arith) log.power_le log.next_power_gt, omega arith)

@@ -1,6 +1,12 @@
 -- `verdict::judge` meets its contract.
-use Rattle.verdict.proofs.VerdictCases.{judge_answers}
+use Rattle.verdict.proofs.VerdictCases.{count_most, overflows_most}
 use Rattle.verdict.proofs.judge.Goals as goal
 
-pub returns : goal.returns
-returns c = let r = c.judge_with_layout-judged.ensures in judge_answers _ _ r.0 r.1
+pub returns-in_err-judge_with_layout-clause-count : goal.returns-in_err-judge_with_layout-clause-count
+returns-in_err-judge_with_layout-clause-count c = ?
+
+pub returns-clause-count : goal.returns-clause-count
+returns-clause-count c = count_most _ _ c.in_ok-judge_with_layout.ensures.told
+
+pub returns-clause-at_most : goal.returns-clause-at_most
+returns-clause-at_most c = overflows_most _ _ c.in_ok-judge_with_layout.ensures.overflows

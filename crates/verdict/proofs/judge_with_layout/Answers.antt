@@ -1,18 +1,21 @@
 -- `verdict::judge_with_layout` meets its contract.
-use Rattle.verdict.proofs.VerdictCases.{judge_refuses, judge_goes_on, judge_ends, judge_accepts}
+use Rattle.verdict.proofs.VerdictCases.{screening_says, judging_says, left_says}
 use Rattle.verdict.proofs.judge_with_layout.Goals as goal
 
-pub returns-then-f-ne0 : goal.returns-then-f-ne0
-returns-then-f-ne0 c = judge_refuses _ _ c.screen-found.ensures c.if-f-ne0.true
+pub returns-in_err-certificate-clause-told : goal.returns-in_err-certificate-clause-told
+returns-in_err-certificate-clause-told c = (left_says _ _ _ c.from_residual.ensures.1 (screening_says _ _ c.in_err-certificate.ensures.told_is)).0
 
-pub judge_screened-verdict-requires : goal.judge_screened-verdict-requires
-judge_screened-verdict-requires c = judge_goes_on _ _ c.screen-found.ensures c.if-f-ne0.false
+pub returns-in_err-certificate-clause-overflows : goal.returns-in_err-certificate-clause-overflows
+returns-in_err-certificate-clause-overflows c = (left_says _ _ _ c.from_residual.ensures.1 (screening_says _ _ c.in_err-certificate.ensures.told_is)).1
 
-pub returns-then-report-ne0 : goal.returns-then-report-ne0
-returns-then-report-ne0 c =
-    judge_ends _ _ c.screen-found.ensures c.if-f-ne0.false _ c.judge_screened-verdict.ensures c.if-report-ne0.true
-    _ c.refused.ensures.0 c.refused.ensures.1
+pub returns-in_err-accepted-clause-told : goal.returns-in_err-accepted-clause-told
+returns-in_err-accepted-clause-told c = ?
 
-pub returns : goal.returns
-returns c =
-    judge_accepts _ _ c.screen-found.ensures c.if-f-ne0.false _ c.judge_screened-verdict.ensures c.if-report-ne0.false
+pub returns-in_err-accepted-clause-overflows : goal.returns-in_err-accepted-clause-overflows
+returns-in_err-accepted-clause-overflows c = ?
+
+pub returns-clause-told : goal.returns-clause-told
+returns-clause-told c = ?
+
+pub returns-clause-overflows : goal.returns-clause-overflows
+returns-clause-overflows c = ?

@@ -1,36 +1,26 @@
-use Prim.Native.Nat.{◌+◌, ◌<◌}
-use mathlib.Core.Path.{◌≡◌, ◌∙◌}
-use native.Mathlib.Omega.{arith}
-use lib.ListN.{get_or}
-use Rattle.entry_search.specs.Search.{passes, column_passing}
-use Rattle.entry_search.proofs.InBoxes.{many_most, sum_begins, sum_more}
+use Rattle.std.proofs.Common.{arith, ◌≡◌, ◌+◌, ◌∙◌, get_or, length}
+use Rattle.successors.specs.Ranges.{how_many}
+use Rattle.entry_setup.specs.Bytes.{bytes_of}
+use Rattle.entry_search.specs.Search.{passes}
+use Rattle.entry_search.proofs.InBoxes.{many_most, sum_begins, many_more}
 use Rattle.entry_search.proofs.search.column_passed.Goals as goal
-use Rattle.entry_search.proofs.search.column_passed.Goals.{After-passing-passed, After-wide_pair}
+use Rattle.entry_search.proofs.search.column_passed.Goals.{After-from-passed}
 
--- the cell that is looked up, and one more that passes
-below : (c : After-wide_pair) → c.wide_pair.result + c.args.j < c.args.task.cells
-below c = let l = c.loop-i in omega (arith, c.wide_pair.ensures.0, c.requires.4 l.i (omega arith))
+next : (c : After-from-passed) → c.loop-run.passed + c.from-passed.result ≡ how_many (c.loop-run.run-index + 1) (λ i. passes (bytes_of c.args.entry.now.tables.now) c.args.entry.now.number (get_or c.args.runs.now i 0 + c.args.j))
+next c = many_more _ _ _ _ _ c.loop-run.invariant (c.passes.ensures ∙ rw c.from.ensures) c.from-passed.ensures
 
-next : (c : After-passing-passed) → c.loop-i.passed + c.passing-passed.result ≡ column_passing c.args.s.now c.args.task.entry c.args.runs.now (c.loop-i.i + 1) c.args.j
-next c = sum_more _ _ _ _ c.loop-i.invariant.0 (c.passing-passed.ensures ∙ rw c.wide_pair.ensures.0)
-
-pub loop-i-init : goal.loop-i-init
-loop-i-init c = (sum_begins _, omega arith)
-
-pub bounds-runs-i : goal.bounds-runs-i
-bounds-runs-i c = omega (arith, c.requires.3)
-
-pub overflow_add-wide_pair : goal.overflow_add-wide_pair
-overflow_add-wide_pair c = omega (arith, below c, c.requires.0.cells_most)
-
-pub passing-passed-requires : goal.passing-passed-requires
-passing-passed-requires c = (c.requires.0, c.requires.1, below c)
+pub loop-run-init : goal.loop-run-init
+loop-run-init c = sum_begins _
 
 pub overflow_add-passed : goal.overflow_add-passed
-overflow_add-passed c = omega (arith, next c, many_most (c.loop-i.i + 1) (λ k. passes c.args.s.now c.args.task.entry (get_or c.args.runs.now k 0 + c.args.j)), c.requires.2)
+overflow_add-passed c =
+    let entry = c.args.entry.now in
+    omega (arith, next c, many_most (c.loop-run.run-index + 1) (λ i. passes (bytes_of entry.tables.now) entry.number (get_or c.args.runs.now i 0 + c.args.j)), c.requires.0)
 
-pub loop-i-preserved : goal.loop-i-preserved
-loop-i-preserved c = (next c, omega arith)
+pub loop-run-preserved : goal.loop-run-preserved
+loop-run-preserved c = next c
 
 pub returns : goal.returns
-returns c = let l = c.loop-i in let end : l.i ≡ c.args.n = omega arith in rw end at l.invariant.0
+returns c =
+    let end : c.loop-run.run-index ≡ length c.args.runs.now = omega arith in
+    rw end at c.loop-run.invariant

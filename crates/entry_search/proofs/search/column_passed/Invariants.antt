@@ -1,11 +1,11 @@
 -- `entry_search::search::column_passed` meets its contract.
-use Prim.Native.Nat.{◌-◌, ◌≤◌}
+use Prim.Native.Nat.{◌+◌}
 use mathlib.Core.Path.{◌≡◌}
-use Rattle.entry_search.specs.Search.{column_passing}
+use lib.ListN.{get_or}
+use Rattle.successors.specs.Ranges.{how_many}
+use Rattle.entry_setup.specs.Bytes.{bytes_of}
+use Rattle.entry_search.specs.Search.{passes}
 use Rattle.entry_search.proofs.search.column_passed.Given as goal
 
-abbrev pub invariant-loop-i : goal.invariant-loop-i
-invariant-loop-i l = (l.passed ≡ column_passing l.s l.task.entry l.runs l.i l.j) × (l.i ≤ l.n)
-
-abbrev pub decreases-loop-i : goal.decreases-loop-i
-decreases-loop-i l = l.n - l.i
+abbrev pub invariant-loop-run : goal.invariant-loop-run
+invariant-loop-run l = l.passed ≡ how_many l.run-index (λ i. passes (bytes_of l.entry.tables.now) l.entry.number (get_or l.runs i 0 + l.j))

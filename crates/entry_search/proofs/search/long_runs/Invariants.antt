@@ -1,11 +1,10 @@
 -- `entry_search::search::long_runs` meets its contract.
-use Prim.Native.Nat.{◌-◌, ◌≤◌}
 use mathlib.Core.Path.{◌≡◌}
-use Rattle.entry_search.specs.Search.{runs_passing}
+use lib.ListN.{get_or}
+use Rattle.certificate.specs.Loops.{sum_to}
+use Rattle.entry_setup.specs.Bytes.{bytes_of}
+use Rattle.entry_search.specs.Search.{run_passing}
 use Rattle.entry_search.proofs.search.long_runs.Given as goal
 
-abbrev pub invariant-loop-i : goal.invariant-loop-i
-invariant-loop-i l = (l.passed ≡ runs_passing l.s l.task.entry l.runs l.i l.size) × (l.i ≤ l.n)
-
-abbrev pub decreases-loop-i : goal.decreases-loop-i
-decreases-loop-i l = l.n - l.i
+abbrev pub invariant-loop-first : goal.invariant-loop-first
+invariant-loop-first l = l.passed ≡ sum_to l.first-index (λ i. run_passing (bytes_of l.entry.tables.now) l.entry.number (get_or l.runs i 0) l.size)

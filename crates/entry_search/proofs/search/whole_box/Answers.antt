@@ -1,23 +1,22 @@
 -- `entry_search::search::whole_box` meets its contract.
-use mathlib.Core.Path.{sym, ◌∙◌}
-use native.Mathlib.Omega.{arith}
-use Rattle.entry_search.proofs.InBoxes.{runs_fit, cell_none, box_passes}
+use Rattle.std.proofs.Common.{arith}
+use Rattle.entry_search.proofs.InBoxes.{cells_most_of, runs_fit, box_passes}
 use Rattle.entry_search.proofs.search.whole_box.Goals as goal
 
-pub runs_passed-looked-requires : goal.runs_passed-looked-requires
-runs_passed-looked-requires c =
-    let r = c.runs_of-r.ensures in
-    (c.requires.0, c.requires.1, runs_fit c.args.s.now _ _ _ _ _ _ _ c.requires.5 r.1 _ c.requires.0.cells_is c.requires.0.cells_most r.0)
+pub runs_passed-passed-requires : goal.runs_passed-passed-requires
+runs_passed-passed-requires c =
+    let entry = c.args.entry.now in
+    runs_fit entry.tables.now.certificate.now entry.number _ _ _ _ (omega (arith, c.runs_of-found.ensures.most, c.runs_of-found.array_long)) c.runs_of-found.ensures
 
-pub overflow_mul-n : goal.overflow_mul-n
-overflow_mul-n c =
-    let r = c.runs_of-r.ensures in
-    omega (arith, (runs_fit c.args.s.now _ _ _ _ _ _ _ c.requires.5 r.1 _ c.requires.0.cells_is c.requires.0.cells_most r.0).most)
+pub overflow_mul-found : goal.overflow_mul-found
+overflow_mul-found c =
+    omega (arith, cells_most_of c.args.entry.now.tables.now.certificate.now _ _ _ _ c.runs_of-found.ensures)
 
-pub returns-then-wide_quad-n : goal.returns-then-wide_quad-n
-returns-then-wide_quad-n c = (cell_none _ _ _, c.runs_of-r.ensures.0)
-
-pub returns : goal.returns
-returns c =
-    let r = c.runs_of-r.ensures in
-    (box_passes c.args.s.now _ _ _ _ _ _ _ c.requires.5 r.1 _ c.runs_passed-looked.ensures (sym c.wide_quad.ensures.0 ∙ c.if-wide_quad-n.false) _ c.requires.0.cells_is, r.0)
+pub returns-then-passed-found : goal.returns-then-passed-found
+returns-then-passed-found c =
+    let entry = c.args.entry.now in
+    let w = entry.tables.now.certificate.now in
+    record {
+      few = omega (arith, c.if-passed-found.true, cells_most_of w _ _ _ _ c.runs_of-found.ensures);
+      passed = λ b B. box_passes w entry.number _ _ _ _ (omega (arith, c.runs_of-found.ensures.most, c.runs_of-found.array_long)) c.runs_of-found.ensures _ c.runs_passed-passed.ensures c.if-passed-found.true b B;
+    }

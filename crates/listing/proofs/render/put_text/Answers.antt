@@ -1,34 +1,30 @@
 -- `listing::render::put_text` meets its contract.
 use native.Mathlib.Omega.{arith}
 use Rattle.listing_text.specs.Listing.{accepted_text}
-use Rattle.text.proofs.Placing.{room_first, rest_start, rest_next, rest_last}
+use Rattle.text.proofs.Written.{room_first, rest_start, rest_next, rest_last}
 use Rattle.listing.proofs.render.put_text.Goals as goal
 
-pub put_counts-first-requires : goal.put_counts-first-requires
+pub put_line-requires : goal.put_line-requires
 unfolding accepted_text
-put_counts-first-requires c = room_first _ c.requires.1
+put_line-requires c = rw c.counts_line.ensures.0 (room_first c.args.writer.now _ c.requires.1)
 
-pub put_entries-last-requires : goal.put_entries-last-requires
+pub put_entries-requires : goal.put_entries-requires
 unfolding accepted_text
-put_entries-last-requires c =
+put_entries-requires c =
     let h = c.requires in
-    let w = c.put_counts-first in
-    let n = c.entries_of.ensures.0 in
-    (omega (arith, h.0.most), h.0.bound, h.0.place, rw n (room_first _ (rest_next (rest_start h.1) w.ensures w.auto.buffer).room))
+    let entries = rest_next (rest_start c.args.writer.now _ h.1) (rw c.counts_line.ensures.0 at c.put_line.ensures) in
+    (omega (arith, h.0.most), h.0.bound, h.0.place, rw c.entries_of.ensures.0 (room_first c.put_line.new.writer _ entries.room))
 
-pub put_accepted-requires : goal.put_accepted-requires
+pub put_line-requires-2 : goal.put_line-requires-2
 unfolding accepted_text
-put_accepted-requires c =
-    let w = c.put_counts-first in
-    let l = c.put_entries-last in
-    let n = c.entries_of.ensures.0 in
-    (rest_next (rest_next (rest_start c.requires.1) w.ensures w.auto.buffer) (rw n at l.ensures) l.auto.buffer).room
+put_line-requires-2 c =
+    let entries = rest_next (rest_start c.args.writer.now _ c.requires.1) (rw c.counts_line.ensures.0 at c.put_line.ensures) in
+    let last = rest_next entries (rw c.entries_of.ensures.0 at c.put_entries.ensures) in
+    rw c.accepted_line.ensures.0 last.room
 
 pub returns : goal.returns
 unfolding accepted_text
 returns c =
-    let w = c.put_counts-first in
-    let l = c.put_entries-last in
-    let n = c.entries_of.ensures.0 in
-    let a = c.put_accepted in
-    rest_last (rest_next (rest_next (rest_start c.requires.1) w.ensures w.auto.buffer) (rw n at l.ensures) l.auto.buffer) a.ensures
+    let entries = rest_next (rest_start c.args.writer.now _ c.requires.1) (rw c.counts_line.ensures.0 at c.put_line.ensures) in
+    let last = rest_next entries (rw c.entries_of.ensures.0 at c.put_entries.ensures) in
+    rest_last last (rw c.accepted_line.ensures.0 at c.put_line-2.ensures)

@@ -7,11 +7,6 @@ use Rattle.listing_text.specs.Lines.{entry_lines}
 use Rattle.listing_text.proofs.Listings.{length-accepted}
 use Rattle.listing.proofs.render.text_length.Goals as goal
 
-pub entries_length-requires : goal.entries_length-requires
-entries_length-requires c =
-    let h = c.requires in
-    (omega (arith, h.most), h.bound, h.place)
-
 pub overflow_add-result : goal.overflow_add-result
 overflow_add-result c = omega (arith, c.requires.most)
 
@@ -20,6 +15,11 @@ overflow_add-result-2 c = omega (arith, c.requires.most)
 
 pub returns : goal.returns
 returns c =
-    let n = c.entries_of.ensures.0 in
-    let lines = ap (λ (n : ℕ). length (entry_lines c.args.s.now n)) n in
-    omega (arith, length-accepted c.args.s.now c.args.report c.args.overflows, lines, c.requires.most)
+    omega (
+      arith,
+      length-accepted c.args.s.now c.args.report c.args.overflows,
+      ap length c.counts_line.ensures.0,
+      ap (λ (n : ℕ). length (entry_lines c.args.s.now n)) c.entries_of.ensures.0,
+      ap length c.accepted_line.ensures.0,
+      c.requires.most,
+    )

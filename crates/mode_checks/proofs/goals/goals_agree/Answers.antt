@@ -2,7 +2,7 @@
 use Rattle.std.proofs.Common.{rules, tests, ◌||◌, not, eqb}
 use Rattle.certificate.specs.Layout.{goal_number_of}
 use Rattle.certificate.specs.Records.{same_goals, goals_agree}
-use Rattle.mode_records.proofs.Ranges.{all_below}
+use Rattle.octets.proofs.Ranges.{all_below}
 use Rattle.mode_checks.proofs.goals.goals_agree.Goals as goal
 
 pub returns : goal.returns

@@ -2,7 +2,7 @@
 use Rattle.std.proofs.Common.{rules, tests, leb}
 use Rattle.certificate.specs.Layout.{goal_for, safe_of, links_of}
 use Rattle.certificate.specs.Records.{goals_safe}
-use Rattle.mode_records.proofs.Ranges.{all_below}
+use Rattle.octets.proofs.Ranges.{all_below}
 use Rattle.mode_checks.proofs.goals.goals_safe.Goals as goal
 
 pub returns : goal.returns

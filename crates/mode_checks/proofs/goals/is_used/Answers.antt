@@ -2,7 +2,7 @@
 use Rattle.std.proofs.Common.{rules, tests, eqb}
 use Rattle.certificate.specs.Layout.{goal_number_of, modes_of}
 use Rattle.certificate.specs.Records.{is_used}
-use Rattle.mode_records.proofs.Ranges.{any_below}
+use Rattle.octets.proofs.Ranges.{any_below}
 use Rattle.mode_checks.proofs.goals.is_used.Goals as goal
 
 pub returns : goal.returns

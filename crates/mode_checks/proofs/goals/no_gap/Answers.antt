@@ -2,7 +2,7 @@
 use Rattle.std.proofs.Common.{rules, tests}
 use Rattle.certificate.specs.Layout.{greatest_goal}
 use Rattle.certificate.specs.Records.{is_used, no_gap}
-use Rattle.mode_records.proofs.Ranges.{all_below}
+use Rattle.octets.proofs.Ranges.{all_below}
 use Rattle.mode_checks.proofs.goals.no_gap.Goals as goal
 
 pub returns : goal.returns

@@ -2,7 +2,7 @@
 use Rattle.std.proofs.Common.{rules, tests, eqb}
 use Rattle.certificate.specs.Layout.{goal_for, links_of}
 use Rattle.certificate.specs.Records.{same_goals}
-use Rattle.mode_records.proofs.Ranges.{all_below}
+use Rattle.octets.proofs.Ranges.{all_below}
 use Rattle.mode_checks.proofs.goals.same_goals.Goals as goal
 
 pub returns : goal.returns

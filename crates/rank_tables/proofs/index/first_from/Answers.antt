@@ -9,4 +9,4 @@ pub loop-f-preserved : goal.loop-f-preserved
 loop-f-preserved c = from_beyond _ _ _ (omega arith) (omega arith) (omega arith)
 
 pub returns : goal.returns
-returns c = (from_nowhere _ _ _ (omega (arith, from_most c.args.certificate.now.bytes.now c.args.d)) (omega arith), omega arith)
+returns c = (from_nowhere _ _ _ (omega (arith, from_most c.args.entries.now.bytes.now c.args.d)) (omega arith), omega arith)

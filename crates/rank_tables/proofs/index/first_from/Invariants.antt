@@ -4,4 +4,4 @@ use Rattle.rank_tables.specs.Index.{entry_from}
 use Rattle.rank_tables.proofs.index.first_from.Given as goal
 
 abbrev pub invariant-loop-f : goal.invariant-loop-f
-invariant-loop-f l = l.f ≤ entry_from l.certificate.bytes.now l.d
+invariant-loop-f l = l.f ≤ entry_from l.entries.bytes.now l.d

@@ -5,4 +5,4 @@ use Rattle.rank_tables.specs.Index.{entry_from}
 use Rattle.rank_tables.proofs.index.index_of.Given as goal
 
 abbrev pub invariant-loop-d : goal.invariant-loop-d
-invariant-loop-d l = (l.e ≤ entry_from l.certificate.bytes.now l.d) × Filled 4097 l.d (entry_from l.certificate.bytes.now) l.first
+invariant-loop-d l = (l.e ≤ entry_from l.entries.bytes.now l.d) × Filled 4097 l.d (entry_from l.entries.bytes.now) l.first

@@ -5,4 +5,4 @@ use Rattle.rank_tables.specs.Index.{CellFrom}
 use Rattle.rank_tables.proofs.lookup.among.Given as goal
 
 abbrev pub invariant-loop-e : goal.invariant-loop-e
-invariant-loop-e l = (l.first ≤ l.e) × ((d : ℕ) → CellFrom l.certificate.bytes.now d l.first l.end → l.e ≤ entry_for l.certificate.bytes.now d l.m)
+invariant-loop-e l = (l.first ≤ l.e) × ((d : ℕ) → CellFrom l.entries.bytes.now d l.first l.end → l.e ≤ entry_for l.entries.bytes.now d l.m)

@@ -1,12 +1,7 @@
 -- `successors::ranges::ranges_of` meets its contract. The loop fills both tables link by link.
-use Prim.Native.Nat.{◌-◌}
-use lib.ListN.{get_or}
+use Rattle.std.proofs.Common.{get_or, ℕ, ◌<◌}
 use Rattle.successors.specs.Ranges.{IsFirst, IsLast}
-use Rattle.octets.proofs.FilledTables.{Each}
 use Rattle.successors.proofs.ranges.ranges_of.Given as goal
 
 abbrev pub invariant-loop-l : goal.invariant-loop-l
-invariant-loop-l l = Each 8 l.l (λ k v. IsFirst l.s k (get_or l.low k 0) v) l.first × Each 8 l.l (λ k v. IsLast l.s k (get_or l.high k 0) v) l.last
-
-abbrev pub decreases-loop-l : goal.decreases-loop-l
-decreases-loop-l l = l.links - l.l
+invariant-loop-l l = (k : ℕ) → k < l.l → IsFirst l.certificate.bytes.now k (get_or l.low k 0) (get_or l.ranges.first k 0) × IsLast l.certificate.bytes.now k (get_or l.high k 0) (get_or l.ranges.last k 0)

@@ -2,7 +2,7 @@
 use Rattle.std.proofs.Common.{rules, max, ◌<◌, ◌≡◌, ◌∙◌, arith, refl}
 use Rattle.certificate.specs.Loops.{greatest_to}
 use Rattle.certificate.specs.Layout.{goal_number_of, greatest_goal}
-use Rattle.mode_records.proofs.Ranges.{fold_below}
+use Rattle.octets.proofs.Ranges.{fold_below}
 use Rattle.mode_records.proofs.ModeFields.{greatest_none, greatest_more}
 use Rattle.mode_records.proofs.modes.Modes.greatest_number.Goals as goal
 

@@ -16,4 +16,6 @@ bounds s index d first end I lt f e = (f ∙ I d (omega arith), e ∙ I (d + 1) 
 pub among-requires : goal.among-requires
 among-requires c =
     let I = c.args.self.now in
-    omega (arith, bounds _ _ _ _ _ I.is c.requires c.from-first.ensures c.from-end.ensures, from_most I.certificate.now.bytes.now (c.args.d + 1))
+    let b = bounds _ _ _ _ _ I.is c.requires.1 c.from-first.ensures c.from-end.ensures in
+    let last = from_most I.entries.bytes.now (c.args.d + 1) in
+    (c.requires.0, omega (arith, b.1, last, I.count_is, I.count_most), omega (arith, b.1, last))

@@ -1,9 +1,0 @@
--- The buffer keeps its length, and one more byte is written each time.
-use Rattle.std.proofs.Common.{length, ◌-◌, ◌≡◌}
-use Rattle.case_output.proofs.buffer.prepare.Given as goal
-
-abbrev pub invariant-loop-i : goal.invariant-loop-i
-invariant-loop-i l = length l.buffer ≡ length l.initial.buffer
-
-abbrev pub decreases-loop-i : goal.decreases-loop-i
-decreases-loop-i l = length l.initial.buffer - l.i
