@@ -3,21 +3,26 @@ use Prim.Native.Nat.{ℕ}
 use mathlib.Core.List.{List}
 use mathlib.Core.Bool.{Bool, true, false, ◌&&◌, cond}
 use mathlib.Core.Path.{◌≡◌, refl, ◌∙◌}
-use borrow.Author.Tests.{eq-eqb, ne_eqb}
 use lib.Dec.{leb, eqb}
 use lib.ListN.{length, take}
+use lib.Seq.{length-take-le}
+use native.Mathlib.Omega.{arith}
+use borrow.Author.Tests.{leb-true}
+use Rattle.certificate.proofs.Tests.{and_both}
 use Rattle.certificate.specs.declared.Report.{Report}
-use Rattle.reading.specs.declared.Reading.{Reading}
-use Rattle.certificate.specs.Checks.{refusal, need}
+use Rattle.certificate.specs.Checks.{refusal, fine, need}
 use Rattle.certificate.specs.Layout.{max_length}
-use Rattle.reading.specs.ReadingResults.{ReadAs}
+use Rattle.certificate.proofs.Tests.{need_fail}
+use Rattle.octets.specs.declared.refusals.Refused.{Refused}
+use Rattle.octets.specs.Refusals.{report_of}
+use Rattle.octets.proofs.Outcomes.{need_holds, need_fails}
 use Rattle.network.specs.Conditions.{screening_of}
 use Rattle.controller.specs.declared.Controller.{Controller}
 use Rattle.controller.specs.declared.Shown.{Shown}
-use Rattle.controller.specs.State.{stored, is_certificate}
+use Rattle.controller.specs.State.{stored, is_certificate, holds_certificate}
 use Rattle.judging.specs.Asking.{is_proper, cell_asked, cell_fault, lookup_fault}
 use Rattle.controller.specs.Query.{query_fault, entry_asked, showing, refused, query_of}
-use Rattle.asking.specs.FoundEntries.{stored_fault, found_at, not_found, cell_found, lookup_of, asked_of}
+use Rattle.asking.specs.FoundEntries.{stored_fault, held_fault, found_at, not_found, cell_found, lookup_of, asked_of}
 use Rattle.controller.specs.Parts.{shown_by}
 
 -- the first n bytes of a state's array are a certificate exactly where they pass
@@ -29,12 +34,19 @@ holds_test bytes n size = rw size (go (leb n max_length))
     go true = refl
     go false = refl
 
-module _ (bytes : List ℕ) (n : ℕ) (size : length bytes ≡ max_length) {r : Reading} (a : ReadAs (take n bytes) (stored_fault bytes n) r) where
-  pub held : r.report.number ≡ 0 → is_certificate bytes n ≡ true
-  held z = holds_test bytes n size ∙ eq-eqb _ _ (rw a.report_is at z)
+-- a state's stored bytes are a certificate, or the refusal is 18
+module _ (c : Controller) (size : length c.bytes ≡ max_length) where
+  pub held : fine ≡ held_fault c.bytes c.len → (holds_certificate c ≡ true) × (length (stored c) ≡ c.len)
+  unfolding held_fault is_certificate
+  held p =
+      let ok : holds_certificate c ≡ true = holds_test c.bytes c.len size ∙ need_holds _ 17 _ p in
+      (ok, length-take-le c.len c.bytes (omega (arith, leb-true _ _ (and_both (leb c.len max_length) _ ok).0)))
 
-  pub not_held : (r.report.number ≡ 0 → ⊥) → is_certificate bytes n ≡ false
-  not_held bad = holds_test bytes n size ∙ ne_eqb _ _ (rw a.report_is at bad)
+  pub not_held : (e : Refused) → report_of e ≡ held_fault c.bytes c.len → (holds_certificate c ≡ false) × (report_of e ≡ refusal 18 0)
+  unfolding held_fault
+  not_held e p =
+      let none = need_fails _ _ _ e p in
+      (holds_test c.bytes c.len size ∙ none, p ∙ need_fail _ _ _ none)
 
 -- what is found in the stored bytes, shown, is the query's answer
 pub query_asks : (c : Controller) (queues : List ℕ) (scale : ℕ) → length c.bytes ≡ max_length
