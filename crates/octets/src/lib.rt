@@ -15,11 +15,7 @@ use certificate::Report;
 pub fn byte_at(s: &[u8], at: usize) -> usize
     ensures { (result ≡ byte_at s.now at) × (result < 256) }
 {
-    if at < s.len() {
-        usize::from(s[at])
-    } else {
-        0
-    }
+    if at < s.len() { usize::from(s[at]) } else { 0 }
 }
 
 // The two-byte number at an offset, high byte first.
