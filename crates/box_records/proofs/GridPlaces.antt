@@ -2,13 +2,14 @@
 use Prim.Native.Nat.{ℕ, zero, suc, ◌+◌, ◌*◌, ◌≤◌, ◌<◌}
 use mathlib.Core.List.{List}
 use mathlib.Core.Logic.{⊎_elim}
-use mathlib.Core.Path.{◌≡◌, refl, ◌∙◌}
+use mathlib.Core.Path.{◌≡◌, refl, sym, ap, ◌∙◌}
 use native.Mathlib.Nat.{eq-or-lt_of_le, one-le-mul}
 use native.Mathlib.Numerals.{add-one}
 use native.Mathlib.Omega.{arith}
 use lib.ListN.{length, get_or, set, replicate, length-set}
 use lib.Seq.{get_or-set_same, get_or-set_other}
 use Rattle.certificate.specs.declared.Report.{Report}
+use Rattle.certificate.specs.Checks.{fine}
 use Rattle.certificate.specs.Layout.{max_links, grid_start, count_at, grid_at, product_of}
 use Rattle.certificate.specs.Records.{grid_fault}
 use Rattle.box_records.specs.GridRecords.{GridsLaid}
@@ -36,11 +37,11 @@ module _ (s : List ℕ) where
       }
 
   -- the record of link l passes: it stands at `at`, and its count joins the product
-  pub laid_next : {l at cells count : ℕ} {places : List ℕ} {r : Report} → GridsLaid s l places at cells → l < max_links → count ≡ count_at s at → r ≡ grid_fault s l → r.number ≡ 0
+  pub laid_next : {l at cells count : ℕ} {places : List ℕ} → GridsLaid s l places at cells → l < max_links → count ≡ count_at s at → fine ≡ grid_fault s l
       → GridsLaid s (l + 1) (set places l at) (at + (1 + 2 * count)) (cells * count)
   unfolding grid_at product_of
-  laid_next {l} {at} {cells} {count} {places} {r} L room many e z =
-      let G = ((grid_says s l).0 (rw e at z)).1 in
+  laid_next {l} {at} {cells} {count} {places} L room many e =
+      let G = ((grid_says s l).0 (ap (λ (r : Report). r.number) (sym e))).1 in
       let same : count ≡ count_at s (grid_at s l) = many ∙ rw L.end_is in
       let inside : l < length places = omega (arith, L.sized) in
       record {
@@ -57,6 +58,3 @@ module _ (s : List ℕ) where
         cells_least = one-le-mul L.cells_least (rw same G.count_least);
         cells_most = rw (same, L.cells_are) G.product_most;
       }
-
-  pub laid_end : {n l at cells : ℕ} {places : List ℕ} → GridsLaid s l places at cells → n ≤ l → l ≤ n → GridsLaid s n places at cells
-  laid_end {n} {l} L p q = let e : n ≡ l = omega arith in rw e L

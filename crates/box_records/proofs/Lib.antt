@@ -1,4 +1,4 @@
--- Grid records one after another: their places, and the product of their counts.
+-- Grid records one after another: their places, and what their tests tell.
 pub mod Grid
 pub mod GridPlaces
 pub mod Products

@@ -1,15 +1,8 @@
--- Products of numbers with bounds stay within a machine number. Assumes nothing.
+-- How far the records of arrival boxes reach. Assumes nothing.
 use Prim.Native.Nat.{ℕ, ◌+◌, ◌*◌, ◌≤◌, ◌<◌}
 use native.Mathlib.Nat.{mul-le-mul, le_of_lt}
 use native.Mathlib.Omega.{arith}
-use mir.Val.{Fits}
-use mir.Syntax.{w64}
 use Rattle.certificate.specs.Layout.{arrival_size}
-
-pub product_fits : (a b : ℕ) → a ≤ 4096 → b < 256 → Fits w64 (a * b)
-product_fits a b p q =
-    let h : a * b ≤ 4096 * 256 = mul-le-mul p (le_of_lt q) in
-    record { fits = omega arith }
 
 -- how far from the first arrival box another one is
 pub box_offset : (links b : ℕ) → links ≤ 8 → b < 256 → arrival_size links * b ≤ 8704

@@ -1,10 +1,9 @@
 -- What reading the grid records finds out about where they stand.
 use Rattle.std.specs.Prelude.{ℕ, ◌+◌, ◌*◌, ◌-◌, ◌≤◌, ◌<◌, List, ◌≡◌, length, get_or, leb}
 use Rattle.certificate.specs.declared.Report.{Report}
-use Rattle.box_records.specs.declared.grids.Grids.{Grids}
 use Rattle.certificate.specs.Checks.{refusal, need, first_bad}
 use Rattle.certificate.specs.Layout.{max_links, max_intervals, max_cells, grid_size, grid_at, intervals_of, product_of}
-use Rattle.certificate.specs.Records.{cut_fault, grid_fault}
+use Rattle.certificate.specs.Records.{cut_fault}
 use Rattle.octets.specs.Bounds.{grids_bound}
 
 -- the last tests of a GR (certificate specs/Records.antt, `grid_fault`): its cuts are present, and in order
@@ -23,8 +22,3 @@ pub record GridsLaid (s : List ℕ) (n : ℕ) (places : List ℕ) (stop cells : 
   pub cells_are : cells ≡ product_of s n
   pub cells_least : 1 ≤ cells
   pub cells_most : cells ≤ max_cells
-
--- what reading the grids of the links answers
-pub record GridsRead (s : List ℕ) (links : ℕ) (r : Grids) : Type 0 where
-  pub report_is : r.report ≡ first_bad links (grid_fault s)
-  pub laid : r.report.number ≡ 0 → GridsLaid s links r.places r.«end» r.cells

@@ -1,19 +1,20 @@
 // GR: one record a link, how many intervals its queues are cut into, and the cuts. The records differ in size.
-ghost use Rattle.std.specs.Prelude.{◌≡◌, ◌*◌, ◌-◌, ◌<◌, ◌≤◌};
+ghost use Rattle.std.specs.Prelude.{◌≡◌, ◌*◌, ◌-◌, ◌<◌, ◌≤◌, IfOk};
 ghost use Rattle.certificate.specs.Checks.{first_bad};
 ghost use Rattle.certificate.specs.Layout.{max_cells, max_links, cap_of, grid_start, count_at, cut_at, grid_at, product_of};
 ghost use Rattle.certificate.specs.Records.{cut_fault, count_ok, grid_fault};
-ghost use Rattle.box_records.specs.GridRecords.{cuts_fault, GridsRead};
+ghost use Rattle.box_records.specs.GridRecords.{cuts_fault, GridsLaid};
 ghost use Rattle.octets.specs.Bounds.{grids_bound, start_bound};
+ghost use Rattle.octets.specs.Refusals.{told};
 
-use certificate::{Report, limits};
+use certificate::limits;
+use octets::refusals;
+use octets::refusals::{Refusal, Refused};
 use road_records::links;
 
-// What reading the grids finds: their report; and where that is no refusal, where each link's record stands,
-// where the last one ends, and how many cells there are.
+// What reading the grids finds: where each link's record stands, where the last one ends, and how many cells there are.
 #[derive(Clone, Copy)]
 pub struct Grids {
-    pub report: Report,
     pub places: [usize; limits::MAX_LINKS],
     pub end: usize,
     pub cells: usize,
@@ -36,19 +37,17 @@ pub fn cut_at(s: &[u8], o: usize, i: usize) -> usize
 }
 
 // The first n cuts of link l: they ascend, each below the cap.
-fn check_cuts(s: &[u8], l: usize, o: usize, cap: usize, n: usize) -> Report
+fn check_cuts(s: &[u8], l: usize, o: usize, cap: usize, n: usize) -> Result<(), Refused>
     requires { (o ≤ start_bound) × (n < 256) × (o ≡ grid_at s.now l) × (cap ≡ cap_of s.now l) }
-    ensures { result ≡ first_bad n (cut_fault s.now l) }
+    ensures { told result ≡ first_bad n (cut_fault s.now l) }
 {
     let mut before = 0;
     for i in 0..n {
         let cut = cut_at(s, o, i);
-        if !((before < cut) & (cut < cap)) {
-            return octets::refuse(7, o);
-        }
+        refusals::require((before < cut) & (cut < cap), Refusal::Grid, o)?;
         before = cut;
     }
-    octets::accept()
+    Ok(())
 }
 
 // The count of link l, and the product of the counts up to it.
@@ -60,65 +59,45 @@ fn count_ok(s: &[u8], l: usize, o: usize, product: usize) -> bool
     (1 <= count) & (count <= limits::MAX_INTERVALS) & (product * count <= limits::MAX_CELLS)
 }
 
-fn one_less(n: usize) -> usize
-    ensures { result ≡ n - 1 }
-{
-    if n == 0 { 0 } else { n - 1 }
-}
-
 // The cuts of link l: all present, and in order.
-fn check_cuts_of(s: &[u8], l: usize, o: usize) -> Report
+fn check_cuts_of(s: &[u8], l: usize, o: usize) -> Result<(), Refused>
     requires { (l < 256) × (o ≤ start_bound) × (o ≡ grid_at s.now l) }
-    ensures { result ≡ cuts_fault s.now l }
+    ensures { told result ≡ cuts_fault s.now l }
 {
     let count = count_at(s, o);
-    if s.len() < o + (1 + 2 * count) {
-        return octets::refuse(1, o);
-    }
-    check_cuts(s, l, o, links::cap_of(s, l), one_less(count))
+    refusals::require(o + (1 + 2 * count) <= s.len(), Refusal::Short, o)?;
+    check_cuts(s, l, o, links::cap_of(s, l), count.saturating_sub(1))
 }
 
 // The record of link l at o; `product` is that of the counts before it.
-fn check_grid(s: &[u8], l: usize, o: usize, product: usize) -> Report
+fn check_grid(s: &[u8], l: usize, o: usize, product: usize) -> Result<(), Refused>
     requires { (l < 256) × (o ≤ start_bound) × (product ≤ max_cells) × (o ≡ grid_at s.now l) × (product ≡ product_of s.now l) }
-    ensures { result ≡ grid_fault s.now l }
+    ensures { told result ≡ grid_fault s.now l }
 {
-    let f = octets::check_opened(s, o, octets::marked_as(s, o, 71, 82), 3);
-    if f.number != 0 {
-        return f;
-    }
-    let counted = octets::record_result(f, count_ok(s, l, o, product), 7, o);
-    let cut = check_cuts_of(s, l, o);
-    octets::or_else(counted, cut)
+    refusals::check_opened(s, o, octets::marked_as(s, o, 71, 82), 3)?;
+    refusals::require(count_ok(s, l, o, product), Refusal::Grid, o)?;
+    check_cuts_of(s, l, o)
 }
 
 // The records of all links, the first at `start`.
-pub fn check_grids(s: &[u8], start: usize, links: usize) -> Grids
+pub fn check_grids(s: &[u8], start: usize, links: usize) -> Result<Grids, Refused>
     requires { (links ≤ max_links) × (start ≤ grids_bound) × (start ≡ grid_start s.now) }
-    ensures { GridsRead s.now links result }
+    ensures told { told result ≡ first_bad links (grid_fault s.now) }
+    ensures laid { IfOk result (λ g. GridsLaid s.now links g.places g.end g.cells) }
 {
-    let mut places = [0usize; limits::MAX_LINKS];
+    let mut places = [0; limits::MAX_LINKS];
     let mut at = start;
     let mut product = 1;
     for l in 0..links {
-        let report = check_grid(s, l, at, product);
-        if report.number != 0 {
-            return Grids {
-                report,
-                places,
-                end: at,
-                cells: product,
-            };
-        }
+        check_grid(s, l, at, product)?;
         places[l] = at;
         let count = count_at(s, at);
-        product = product * count;
-        at = at + (1 + 2 * count);
+        product *= count;
+        at += 1 + 2 * count;
     }
-    Grids {
-        report: octets::accept(),
+    Ok(Grids {
         places,
         end: at,
         cells: product,
-    }
+    })
 }

@@ -8,17 +8,15 @@ use borrow.Author.Tests.{ltb-true, ltb-false, eqb-true, eqb-false, lt-ltb, le-lt
 use lib.Dec.{ltb, leb, eqb}
 use lib.ListN.{length}
 use Rattle.certificate.specs.declared.Report.{Report}
-use Rattle.certificate.specs.Octets.{byte_at, u16_at}
 use Rattle.certificate.specs.Loops.{pick}
 use Rattle.certificate.specs.Checks.{refusal, fine, need, or_else, first_bad, marked, opened}
-use Rattle.certificate.specs.Layout.{entry_size, entry_at, cell_of, mode_of, remembers, takes_turns, shown_before, goal_number_of, greatest_goal, next_goal}
+use Rattle.certificate.specs.Layout.{entry_size, entry_at, cell_of, mode_of, signal_of, next_mode_of, rank_of, remembers, takes_turns, shown_before, goal_number_of, greatest_goal, next_goal}
 use Rattle.certificate.specs.Records.{pair_below, names_exist, entry_ascends, passes_on, turns_on, entry_fault}
 use Rattle.entry_checks.specs.Keys.{IsKey, KeyBefore, Ordered}
-use Rattle.certificate.proofs.Tests.{and_both, need_pass, need_fail, need_chain, or_next, fine_all}
+use Rattle.certificate.proofs.Tests.{and_both, need_pass, need_fail, or_next, fine_all}
 use Rattle.certificate.proofs.Says.{opened-fine}
 use Rattle.certificate.proofs.Records.{entry_says}
 use Rattle.certificate.proofs.KindLaws.{turns_remember, one_goal_layout}
-use Rattle.octets.proofs.Cases.{first, opened-whole}
 
 -- two pairs as numbers compare as the pairs do
 pair_key : (a b c d : ℕ) → b < 256 → d < 256 → leb (a * 256 + b + 1) (c * 256 + d) ≡ pair_below a b c d
@@ -61,25 +59,6 @@ module _ (s : List ℕ) where
       let m : key + 1 - 1 ≡ key = omega arith in
       record { none = λ z. absurd (omega arith); some = λ lt. omega arith; after = λ lt. rw (n, m) K }
 
-  -- the record of an entry: f is what its opening answers
-  module _ (e : ℕ) {o : ℕ} (here : o ≡ entry_at s e) {mark : Bool} {f : Report} (bears : mark ≡ marked s o 69 78) (opening : f ≡ opened s o mark entry_size) where
-    pub entry_unopened : (f.number ≡ 0 → ⊥) → f ≡ entry_fault s e
-    unfolding entry_fault
-    entry_unopened bad = first f _ _ (opening ∙ rw (bears, here)) bad
-
-    pub entry_whole : f.number ≡ 0 → o + entry_size ≤ length s
-    entry_whole z = opened-whole s o mark entry_size (omega arith) opening z
-
-    -- g is what the test of its names answers, after which its order is tested, and h what this answers
-    pub entry_result : {named up on turn : Bool} {g h i r : Report} → named ≡ names_exist s e → up ≡ entry_ascends s e → on ≡ passes_on s e → turn ≡ turns_on s e
-        → g ≡ or_else f (need named (refusal 9 o) fine) → h ≡ or_else g (need up (refusal 22 o) fine) → i ≡ or_else h (need on (refusal 23 o) fine)
-        → r ≡ or_else i (need turn (refusal 24 o) fine) → r ≡ entry_fault s e
-    unfolding entry_fault
-    entry_result {named} {up} {on} {turn} {g} {h} p u k j q v w x =
-        let last : Report = need turn (refusal 24 o) fine in
-        let third : Report = need on (refusal 23 o) last in
-        x ∙ rw (w, need_chain h on 23 o last refl, v, need_chain g up 22 o third refl, q, need_chain f named 9 o (need up (refusal 22 o) third) refl, opening, bears, p, u, k, j, here)
-
   -- the test of what it passes on, as the code makes it
   pub passes_free : (e : ℕ) {memory : Bool} → memory ≡ remembers s → not memory ≡ true → true ≡ passes_on s e
   unfolding passes_on
@@ -88,16 +67,23 @@ module _ (s : List ℕ) where
   pub turns_free : (e : ℕ) {turns : Bool} → turns ≡ takes_turns s → not turns ≡ true → true ≡ turns_on s e
   turns_free e {turns} p q = sym ((one_goal_layout s (sym p ∙ not-true turns q)).turns_on_fact e)
 
-  pub passes_held : (e : ℕ) {memory : Bool} {o next shown own : ℕ} → memory ≡ remembers s → not memory ≡ false → o ≡ entry_at s e
-      → next ≡ byte_at s (o + 6) → shown ≡ shown_before s next → own ≡ byte_at s (o + 5) → eqb shown own ≡ passes_on s e
+  pub passes_held : (e : ℕ) {memory : Bool} {t : List ℕ} {next shown own : ℕ} → memory ≡ remembers s → not memory ≡ false → t ≡ s
+      → next ≡ next_mode_of s e → shown ≡ shown_before t next → own ≡ signal_of s e → eqb shown own ≡ passes_on s e
   unfolding passes_on
-  passes_held e {memory} p q here n h k = rw (← p, not-false memory q, h, n, k, here)
+  passes_held e {memory} p q same n h k = rw (← p, not-false memory q, h, same, n, k)
 
-  pub turns_held : (e : ℕ) {o mode following own next greatest rank due : ℕ} → o ≡ entry_at s e → mode ≡ byte_at s (o + 4) → own ≡ goal_number_of s mode
-      → following ≡ byte_at s (o + 6) → next ≡ goal_number_of s following → rank ≡ u16_at s (o + 7) → greatest ≡ greatest_goal s
+  pub turns_held : (e : ℕ) {t : List ℕ} {mode following own next greatest rank due : ℕ} → t ≡ s → mode ≡ mode_of s e → own ≡ goal_number_of t mode
+      → following ≡ next_mode_of s e → next ≡ goal_number_of t following → rank ≡ rank_of s e → greatest ≡ greatest_goal s
       → due ≡ pick (eqb rank 0) (pick (eqb own greatest) 0 (own + 1)) own → eqb next due ≡ turns_on s e
   unfolding turns_on next_goal
-  turns_held e here m p f q r g d = rw (d, q, p, g, r, f, m, here)
+  turns_held e same m p f q r g d = rw (d, q, p, g, r, f, m, same)
+
+  -- the tests of an entry one after another, as far as they were made
+  pub entry_tests : (e : ℕ) {o : ℕ} {mark named up on turn : Bool} → o ≡ entry_at s e → mark ≡ marked s o 69 78 → named ≡ names_exist s e → up ≡ entry_ascends s e
+      → on ≡ passes_on s e → turn ≡ turns_on s e
+      → or_else (opened s o mark entry_size) (need named (refusal 9 o) (need up (refusal 22 o) (need on (refusal 23 o) (need turn (refusal 24 o) fine)))) ≡ entry_fault s e
+  unfolding entry_fault
+  entry_tests e here bears p u k j = rw (bears, p, u, k, j, here)
 
   -- an entry that is there whole, with its mark, and passes its tests up to the order
   pub entry_ordered : (e : ℕ) {o : ℕ} {mark named up : Bool} → o ≡ entry_at s e → o + entry_size ≤ length s → mark ≡ marked s o 69 78

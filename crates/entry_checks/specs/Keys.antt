@@ -1,10 +1,8 @@
 -- What the tests of entries go by, one entry after another.
 use Rattle.std.specs.Prelude.{ℕ, ◌+◌, ◌*◌, ◌-◌, ◌≤◌, ◌<◌, List, ◌≡◌, length}
 use Rattle.certificate.specs.Checks.{refusal, fine, need}
-use Rattle.certificate.specs.Layout.{entry_size, entry_at, cell_of, mode_of, signals_of, modes_of, cells_of, remembers, takes_turns, greatest_goal}
+use Rattle.certificate.specs.Layout.{entry_size, entry_at, cell_of, mode_of}
 use Rattle.certificate.specs.Records.{passes_on, turns_on, entry_fault}
-use Rattle.mode_records.specs.Placed.{Placed}
-use Rattle.entry_checks.specs.declared.Counts.{Counts}
 
 -- key is the pair of entry e as one number, cell × 256 + mode
 pub record IsKey (s : List ℕ) (e key : ℕ) : Type 0 where
@@ -22,13 +20,3 @@ pub record KeyBefore (s : List ℕ) (e least : ℕ) : Type 0 where
 pub record Ordered (s : List ℕ) (e : ℕ) : Type 0 where
   pub whole : entry_at s e + entry_size ≤ length s
   pub rest : entry_fault s e ≡ need (passes_on s e) (refusal 23 (entry_at s e)) (need (turns_on s e) (refusal 24 (entry_at s e)) fine)
-
--- what the entries are tested against
-pub record CountsAre (s : List ℕ) (counts : Counts) : Type 0 where
-  pub signals_are : counts.signals ≡ signals_of s
-  pub modes_are : counts.modes ≡ modes_of s
-  pub cells_are : counts.cells ≡ cells_of s
-  pub memory_is : counts.memory ≡ remembers s
-  pub turns_are : counts.turns ≡ takes_turns s
-  pub placed : Placed s counts.place
-  pub greatest_is : counts.greatest ≡ greatest_goal s

@@ -1,175 +1,138 @@
-// The tests of the records of entries (refusals 9, 22, 23 and 24). `start` is where the records of entries begin.
+// The tests of the records of entries (refusals 9, 22, 23 and 24).
 #![tactic(auto)]
 
-ghost use Rattle.std.specs.Prelude.{◌≡◌, ℕ, ◌+◌, ◌<◌, ◌≤◌, eqb, length};
-ghost use Rattle.certificate.specs.Loops.{pick};
+ghost use Rattle.std.specs.Prelude.{◌≡◌, ℕ, ◌+◌, ◌<◌, ◌≤◌};
+ghost use Rattle.std.specs.Option.{IfSome};
+ghost use Rattle.std.specs.Result.{IfOk};
 ghost use Rattle.certificate.specs.Checks.{first_bad};
-ghost use Rattle.certificate.specs.Layout.{max_cells, entries_start, entry_at, entry_size};
-ghost use Rattle.certificate.specs.Records.{names_exist, passes_on, turns_on, entry_fault};
-ghost use Rattle.entry_checks.specs.Keys.{CountsAre, IsKey, KeyBefore, Ordered};
-ghost use Rattle.octets.specs.Bounds.{entry_bound, start_bound};
+ghost use Rattle.certificate.specs.Layout.{max_cells, signals_of, modes_of, cells_of, remembers, takes_turns, greatest_goal};
+ghost use Rattle.certificate.specs.Records.{entry_fault};
+ghost use Rattle.entry_checks.specs.Keys.{IsKey, KeyBefore, Ordered};
+ghost use Rattle.octets.specs.Refusals.{told};
 
-use certificate::{Report, limits};
-use entry_records::entries;
-use mode_records::{goals, modes};
+mod entry;
 
-// How many signals, modes and cells there are, whether modes remember the signal shown before, whether they have goals in turn, where
-// the records of modes stand, and the greatest goal number.
+use certificate::limits;
+use entry::Entry;
+use entry_records::entries::Entries;
+use mode_records::modes::Modes;
+use octets::refusals::{self, Refusal, Refused};
+
+// The entries of a certificate and what they are tested against: its modes, how many signals, modes and cells there are, whether modes
+// remember the signal shown before, whether they have goals in turn, and the greatest goal number.
 #[derive(Clone, Copy)]
-pub struct Counts {
-    pub signals: usize,
-    pub modes: usize,
-    pub cells: usize,
-    pub memory: bool,
-    pub turns: bool,
-    pub place: modes::Place,
+pub struct EntryChecks<'a> {
+    pub entries: Entries<'a>,
+    pub modes: Modes<'a>,
+    pub signal_count: usize,
+    pub mode_count: usize,
+    pub cell_count: usize,
+    pub has_memory: bool,
+    pub in_turn: bool,
     pub greatest: usize,
+    ghost together: { modes.bytes.now ≡ entries.bytes.now },
+    ghost signals_are: { signal_count ≡ signals_of entries.bytes.now },
+    ghost modes_are: { mode_count ≡ modes_of entries.bytes.now },
+    ghost cells_are: { cell_count ≡ cells_of entries.bytes.now },
+    ghost cells_most: { cell_count ≤ max_cells },
+    ghost memory_is: { has_memory ≡ remembers entries.bytes.now },
+    ghost turns_are: { in_turn ≡ takes_turns entries.bytes.now },
+    ghost greatest_is: { greatest ≡ greatest_goal entries.bytes.now },
 }
 
-// The pair of the entry at o, which is there whole, as one number: cell × 256 + mode.
-fn key_at(s: &[u8], o: usize, e: usize) -> usize
-    requires { (o ≤ entry_bound) × (o ≡ entry_at s.now e) × (o + entry_size ≤ length s.now) }
-    ensures { IsKey s.now e result }
-{
-    octets::u16_within(s, o + 2) * 256 + octets::byte_within(s, o + 4)
-}
-
-// The cell, mode, signal and next mode that the entry at o names exist. It is there whole and has that key.
-fn names_exist(s: &[u8], o: usize, counts: Counts, e: usize, key: usize) -> bool
-    requires { (o ≤ entry_bound) × (o ≡ entry_at s.now e) × (o + entry_size ≤ length s.now) × (counts.cells ≤ max_cells) × CountsAre s.now counts × IsKey s.now e key }
-    ensures { result ≡ names_exist s.now e }
-{
-    (key < counts.cells * 256)
-        & (key % 256 < counts.modes)
-        & (octets::byte_within(s, o + 5) < counts.signals)
-        & (octets::byte_within(s, o + 6) < counts.modes)
-}
-
-// Where modes remember, the next mode of the entry at o, which is there whole, remembers its signal.
-fn passes_on(s: &[u8], o: usize, counts: Counts, e: usize) -> bool
-    requires { (o ≤ entry_bound) × (o ≡ entry_at s.now e) × (o + entry_size ≤ length s.now) × CountsAre s.now counts }
-    ensures { result ≡ passes_on s.now e }
-{
-    if !counts.memory {
-        return true;
-    }
-    let next = octets::byte_within(s, o + 6);
-    modes::shown_before(s, counts.place, next) == octets::byte_within(s, o + 5)
-}
-
-// The goal number that the next mode of an entry must have, by its rank and the number of its own mode: the next one at rank 0, 0 after
-// the greatest.
-fn number_due(rank: usize, own: usize, greatest: usize) -> usize
-    requires { own < 256 }
-    ensures { result ≡ pick (eqb rank 0) (pick (eqb own greatest) 0 (own + 1)) own }
-{
-    if rank != 0 {
-        return own;
-    }
-    if own == greatest {
-        return 0;
-    }
-    own + 1
-}
-
-// Where modes have goals in turn, the next mode of the entry at o, which is there whole, has the goal number due.
-fn turns_on(s: &[u8], o: usize, counts: Counts, e: usize) -> bool
-    requires { (o ≤ entry_bound) × (o ≡ entry_at s.now e) × (o + entry_size ≤ length s.now) × CountsAre s.now counts }
-    ensures { result ≡ turns_on s.now e }
-{
-    if !counts.turns {
-        return true;
-    }
-    let own = goals::goal_number(s, counts.place, octets::byte_within(s, o + 4));
-    let next = goals::goal_number(s, counts.place, octets::byte_within(s, o + 6));
-    next == number_due(octets::u16_within(s, o + 7), own, counts.greatest)
-}
-
-// A quick yes for the record at o: it is there whole, its mark is right, and its tests up to 22 pass. One above its key then, else 0.
-// `least` is one above the key of the entry before it, and 0 for the first entry.
-fn quick(s: &[u8], o: usize, counts: Counts, e: usize, least: usize) -> usize
-    requires { (o ≤ entry_bound) × (o ≡ entry_at s.now e) × (counts.cells ≤ max_cells) × CountsAre s.now counts × KeyBefore s.now e least }
-    ensures { (result ≡ 0 → ⊥) → Ordered s.now e × KeyBefore s.now (e + 1) result }
-{
-    if s.len() < o + limits::ENTRY_SIZE {
-        return 0;
-    }
-    let key = key_at(s, o, e);
-    // joined from the right for speed: from the left, the order would be tested before the mark
-    if octets::marked_within(s, o, 69, 78) & (names_exist(s, o, counts, e, key) & (least <= key)) {
-        return key + 1;
-    }
-    0
-}
-
-// The record at o by its tests one after another.
-fn check_entry(s: &[u8], o: usize, counts: Counts, e: usize, least: usize) -> Report
-    requires { (o ≤ entry_bound) × (o ≡ entry_at s.now e) × (counts.cells ≤ max_cells) × CountsAre s.now counts × KeyBefore s.now e least }
-    ensures { result ≡ entry_fault s.now e }
-{
-    let opening = octets::check_opened(s, o, octets::marked_as(s, o, 69, 78), limits::ENTRY_SIZE);
-    if opening.number != 0 {
-        return opening;
-    }
-    let key = key_at(s, o, e);
-    let exist = names_exist(s, o, counts, e, key);
-    let on = passes_on(s, o, counts, e);
-    let turn = turns_on(s, o, counts, e);
-    let named = octets::record_result(opening, exist, 9, o);
-    let ordered = octets::record_result(named, least <= key, 22, o);
-    let remembered = octets::record_result(ordered, on, 23, o);
-    octets::record_result(remembered, turn, 24, o)
-}
-
-// The records of all entries, each by its tests one after another.
-fn check_each(s: &[u8], start: usize, counts: Counts, entries: usize) -> Report
-    requires { (entries < 65536) × (start ≤ start_bound) × (start ≡ entries_start s.now) × (counts.cells ≤ max_cells) × CountsAre s.now counts }
-    ensures { result ≡ first_bad entries (entry_fault s.now) }
-{
-    let mut least = 0;
-    for e in 0..entries {
-        let o = entries::entry_at(start, e);
-        let f = check_entry(s, o, counts, e, least);
-        if f.number != 0 {
-            return f;
+impl EntryChecks<'_> {
+    // A quick yes for entry e: its record is there whole, its mark is right, and its tests up to 22 pass. One above its key then.
+    // `least` is one above the key of the entry before it, and 0 for the first entry.
+    fn quick(&self, e: usize, least: usize) -> Option<usize>
+        requires { (e < 65536) × KeyBefore self.now.entries.bytes.now e least }
+        ensures { IfSome result (λ next. Ordered self.now.entries.bytes.now e × KeyBefore self.now.entries.bytes.now (e + 1) next) }
+    {
+        let bytes = self.entries.bytes;
+        let at = self.entries.record_at(e);
+        if bytes.len() < at + limits::ENTRY_SIZE {
+            return None;
         }
-        least = key_at(s, o, e) + 1;
+        let entry = Entry {
+            checks: &*self,
+            e,
+            at,
+        };
+        let key = entry.key();
+        // joined from the right for speed: from the left, the order would be tested before the mark
+        if octets::marked_within(bytes, at, 69, 78) & (entry.names_exist(key) & (least <= key)) {
+            return Some(key + 1);
+        }
+        None
     }
-    octets::accept()
-}
 
-// 23 and 24 of all entries, which pass the tests before them. They have a loop of their own, so that HD has no part in it.
-fn check_memories(s: &[u8], start: usize, counts: Counts, entries: usize) -> Report
-    requires { (entries < 65536) × (start ≤ start_bound) × (start ≡ entries_start s.now) × CountsAre s.now counts × ((e : ℕ) → e < entries → Ordered s.now e) }
-    ensures { result ≡ first_bad entries (entry_fault s.now) }
-{
-    for e in 0..entries {
-        let o = entries::entry_at(start, e);
-        if !passes_on(s, o, counts, e) {
-            return octets::refuse(23, o);
-        }
-        if !turns_on(s, o, counts, e) {
-            return octets::refuse(24, o);
-        }
+    // Entry e by its tests one after another: its key, or the first refusal.
+    fn check_entry(&self, e: usize, least: usize) -> Result<usize, Refused>
+        requires { (e < 65536) × KeyBefore self.now.entries.bytes.now e least }
+        ensures told { told result ≡ entry_fault self.now.entries.bytes.now e }
+        ensures key { IfOk result (λ key. IsKey self.now.entries.bytes.now e key) }
+    {
+        let at = self.entries.record_at(e);
+        let mark = octets::marked_as(self.entries.bytes, at, 69, 78);
+        refusals::check_opened(self.entries.bytes, at, mark, limits::ENTRY_SIZE)?;
+        let entry = Entry {
+            checks: &*self,
+            e,
+            at,
+        };
+        let key = entry.key();
+        refusals::require(entry.names_exist(key), Refusal::Names, at)?;
+        refusals::require(least <= key, Refusal::Order, at)?;
+        refusals::require(entry.passes_on(), Refusal::Memory, at)?;
+        refusals::require(entry.turns_on(), Refusal::Goal, at)?;
+        Ok(key)
     }
-    octets::accept()
-}
 
-// The records of all entries: quickly as long as the quick test says yes, and then 23 and 24; where it says no, each again with care.
-pub fn check_entries(s: &[u8], start: usize, counts: Counts, entries: usize) -> Report
-    requires { (entries < 65536) × (start ≤ start_bound) × (start ≡ entries_start s.now) × (counts.cells ≤ max_cells) × CountsAre s.now counts }
-    ensures { result ≡ first_bad entries (entry_fault s.now) }
-{
-    let mut least = 0;
-    for e in 0..entries {
-        let next = quick(s, entries::entry_at(start, e), counts, e, least);
-        if next == 0 {
-            return check_each(s, start, counts, entries);
+    // All entries, each by its tests one after another.
+    fn check_each(&self, count: usize) -> Result<(), Refused>
+        requires { count < 65536 }
+        ensures { told result ≡ first_bad count (entry_fault self.now.entries.bytes.now) }
+    {
+        let mut least = 0;
+        for e in 0..count {
+            least = self.check_entry(e, least)? + 1;
         }
-        least = next;
+        Ok(())
     }
-    if counts.memory {
-        return check_memories(s, start, counts, entries);
+
+    // 23 and 24 of all entries, which pass the tests before them. They have a loop of their own, so that HD has no part in it.
+    fn check_memories(&self, count: usize) -> Result<(), Refused>
+        requires { (count < 65536) × ((e : ℕ) → e < count → Ordered self.now.entries.bytes.now e) }
+        ensures { told result ≡ first_bad count (entry_fault self.now.entries.bytes.now) }
+    {
+        for e in 0..count {
+            let at = self.entries.record_at(e);
+            let entry = Entry {
+                checks: &*self,
+                e,
+                at,
+            };
+            refusals::require(entry.passes_on(), Refusal::Memory, entry.at)?;
+            refusals::require(entry.turns_on(), Refusal::Goal, entry.at)?;
+        }
+        Ok(())
     }
-    octets::accept()
+
+    // All entries, of which there are so many: quickly as long as the quick test says yes, and then 23 and 24; where it says no, each
+    // again with care.
+    pub fn check_entries(&self, count: usize) -> Result<(), Refused>
+        requires { count < 65536 }
+        ensures { told result ≡ first_bad count (entry_fault self.now.entries.bytes.now) }
+    {
+        let mut least = 0;
+        for e in 0..count {
+            let Some(next) = self.quick(e, least) else {
+                return self.check_each(count);
+            };
+            least = next;
+        }
+        if self.has_memory {
+            return self.check_memories(count);
+        }
+        Ok(())
+    }
 }

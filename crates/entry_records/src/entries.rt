@@ -1,4 +1,4 @@
-// EN: one record an entry of the policy, and its fields. `start` is where the records of entries begin.
+// EN: one record an entry of the policy, and its fields.
 ghost use Rattle.std.specs.Prelude.{◌≡◌, ◌+◌, ◌*◌, ◌<◌, ◌≤◌};
 ghost use Rattle.certificate.specs.Octets.{byte_at, u16_at};
 ghost use Rattle.certificate.specs.Layout.{entries_start, entry_at, entry_size, cell_of, mode_of, signal_of, next_mode_of, rank_of};
@@ -16,40 +16,63 @@ pub struct Entries<'a> {
     ghost low: { start ≤ start_bound },
 }
 
-impl<'a> Entries<'a> {
+impl Entries<'_> {
+    // Where the record of entry e stands.
+    pub fn record_at(&self, e: usize) -> usize
+        requires { e < 65536 }
+        ensures { (result ≡ entry_at self.now.bytes.now e) × (result ≤ 700000) }
+    {
+        self.start + limits::ENTRY_SIZE * e
+    }
+
+    // The byte and the two-byte number at offset k of the record of entry e.
+    fn entry_byte(&self, e: usize, k: usize) -> usize
+        requires { (e < 65536) × (k < 256) }
+        ensures { (result ≡ byte_at self.now.bytes.now (entry_at self.now.bytes.now e + k)) × (result < 256) }
+    {
+        octets::byte_at(self.bytes, self.record_at(e) + k)
+    }
+
+    fn entry_u16(&self, e: usize, k: usize) -> usize
+        requires { (e < 65536) × (k < 256) }
+        ensures { (result ≡ u16_at self.now.bytes.now (entry_at self.now.bytes.now e + k)) × (result < 65536) }
+    {
+        octets::u16_at(self.bytes, self.record_at(e) + k)
+    }
+
     pub fn cell_of(&self, e: usize) -> usize
         requires { e < 65536 }
         ensures { (result ≡ cell_of self.now.bytes.now e) × (result < 65536) }
     {
-        cell_of(self.bytes, self.start, e)
+        self.entry_u16(e, 2)
     }
 
     pub fn mode_of(&self, e: usize) -> usize
         requires { e < 65536 }
         ensures { (result ≡ mode_of self.now.bytes.now e) × (result < 256) }
     {
-        mode_of(self.bytes, self.start, e)
+        self.entry_byte(e, 4)
     }
 
     pub fn signal_of(&self, e: usize) -> usize
         requires { e < 65536 }
         ensures { (result ≡ signal_of self.now.bytes.now e) × (result < 256) }
     {
-        signal_of(self.bytes, self.start, e)
+        self.entry_byte(e, 5)
     }
 
     pub fn next_mode_of(&self, e: usize) -> usize
         requires { e < 65536 }
         ensures { (result ≡ next_mode_of self.now.bytes.now e) × (result < 256) }
     {
-        next_mode_of(self.bytes, self.start, e)
+        self.entry_byte(e, 6)
     }
 
     pub fn rank_of(&self, e: usize) -> usize
         requires { e < 65536 }
         ensures { (result ≡ rank_of self.now.bytes.now e) × (result < 65536) }
     {
-        rank_of(self.bytes, self.start, e)
+        self.entry_u16(e, 7)
     }
 
     // The cabinet's reading of entry e: all but its rank.
@@ -57,7 +80,12 @@ impl<'a> Entries<'a> {
         requires { e < 65536 }
         ensures { (result ≡ cabinet_entry_of self.now.bytes.now e) × (result.cell < 65536) × (result.mode < 256) × (result.signal < 256) × (result.next_mode < 256) }
     {
-        cabinet_entry(self.bytes, self.start, e)
+        CabinetEntry {
+            cell: self.cell_of(e),
+            mode: self.mode_of(e),
+            signal: self.signal_of(e),
+            next_mode: self.next_mode_of(e),
+        }
     }
 
     // The bench's: the rank as well.
@@ -65,11 +93,14 @@ impl<'a> Entries<'a> {
         requires { e < 65536 }
         ensures { (result ≡ bench_entry_of self.now.bytes.now e) × (result.shown.cell < 65536) × (result.shown.mode < 256) × (result.shown.signal < 256) × (result.shown.next_mode < 256) × (result.rank < 65536) }
     {
-        bench_entry(self.bytes, self.start, e)
+        BenchEntry {
+            shown: self.cabinet_entry(e),
+            rank: self.rank_of(e),
+        }
     }
 }
 
-// Where the record of entry e stands.
+// for the crates above, until they read by a certificate
 pub fn entry_at(start: usize, e: usize) -> usize
     requires { (e < 65536) × (start ≤ start_bound) }
     ensures { (result ≡ start + entry_size * e) × (result ≤ 700000) }
@@ -77,77 +108,51 @@ pub fn entry_at(start: usize, e: usize) -> usize
     start + limits::ENTRY_SIZE * e
 }
 
-// The byte and the two-byte number at offset k of the record of entry e.
-fn entry_byte(s: &[u8], start: usize, e: usize, k: usize) -> usize
-    requires { (e < 65536) × (k < 256) × (start ≤ start_bound) × (start ≡ entries_start s.now) }
-    ensures { (result ≡ byte_at s.now (entry_at s.now e + k)) × (result < 256) }
-{
-    octets::byte_at(s, entry_at(start, e) + k)
-}
-
-fn entry_u16(s: &[u8], start: usize, e: usize, k: usize) -> usize
-    requires { (e < 65536) × (k < 256) × (start ≤ start_bound) × (start ≡ entries_start s.now) }
-    ensures { (result ≡ u16_at s.now (entry_at s.now e + k)) × (result < 65536) }
-{
-    octets::u16_at(s, entry_at(start, e) + k)
-}
-
 pub fn cell_of(s: &[u8], start: usize, e: usize) -> usize
     requires { (e < 65536) × (start ≤ start_bound) × (start ≡ entries_start s.now) }
     ensures { (result ≡ cell_of s.now e) × (result < 65536) }
 {
-    entry_u16(s, start, e, 2)
+    Entries { bytes: s, start }.cell_of(e)
 }
 
 pub fn mode_of(s: &[u8], start: usize, e: usize) -> usize
     requires { (e < 65536) × (start ≤ start_bound) × (start ≡ entries_start s.now) }
     ensures { (result ≡ mode_of s.now e) × (result < 256) }
 {
-    entry_byte(s, start, e, 4)
+    Entries { bytes: s, start }.mode_of(e)
 }
 
 pub fn signal_of(s: &[u8], start: usize, e: usize) -> usize
     requires { (e < 65536) × (start ≤ start_bound) × (start ≡ entries_start s.now) }
     ensures { (result ≡ signal_of s.now e) × (result < 256) }
 {
-    entry_byte(s, start, e, 5)
+    Entries { bytes: s, start }.signal_of(e)
 }
 
 pub fn next_mode_of(s: &[u8], start: usize, e: usize) -> usize
     requires { (e < 65536) × (start ≤ start_bound) × (start ≡ entries_start s.now) }
     ensures { (result ≡ next_mode_of s.now e) × (result < 256) }
 {
-    entry_byte(s, start, e, 6)
+    Entries { bytes: s, start }.next_mode_of(e)
 }
 
 pub fn rank_of(s: &[u8], start: usize, e: usize) -> usize
     requires { (e < 65536) × (start ≤ start_bound) × (start ≡ entries_start s.now) }
     ensures { (result ≡ rank_of s.now e) × (result < 65536) }
 {
-    entry_u16(s, start, e, 7)
+    Entries { bytes: s, start }.rank_of(e)
 }
 
-// The cabinet's reading of entry e: all but its rank.
 pub fn cabinet_entry(s: &[u8], start: usize, e: usize) -> CabinetEntry
     requires { (e < 65536) × (start ≤ start_bound) × (start ≡ entries_start s.now) }
     ensures { (result ≡ cabinet_entry_of s.now e) × (result.cell < 65536) × (result.mode < 256) × (result.signal < 256) × (result.next_mode < 256) }
 {
-    CabinetEntry {
-        cell: cell_of(s, start, e),
-        mode: mode_of(s, start, e),
-        signal: signal_of(s, start, e),
-        next_mode: next_mode_of(s, start, e),
-    }
+    Entries { bytes: s, start }.cabinet_entry(e)
 }
 
-// The bench's: the rank as well.
 pub fn bench_entry(s: &[u8], start: usize, e: usize) -> BenchEntry
     requires { (e < 65536) × (start ≤ start_bound) × (start ≡ entries_start s.now) }
     ensures { (result ≡ bench_entry_of s.now e) × (result.shown.cell < 65536) × (result.shown.mode < 256) × (result.shown.signal < 256) × (result.shown.next_mode < 256) × (result.rank < 65536) }
 {
-    let shown = cabinet_entry(s, start, e);
-    BenchEntry {
-        shown,
-        rank: rank_of(s, start, e),
-    }
+    Entries { bytes: s, start }.bench_entry(e)
 }

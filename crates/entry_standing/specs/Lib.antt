@@ -1,2 +1,2 @@
 -- What the standing of an entry goes by.
-pub mod Where
+pub mod Standing

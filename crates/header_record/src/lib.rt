@@ -2,22 +2,70 @@
 #![tactic(auto)]
 
 ghost use Rattle.std.specs.Prelude.{◌≡◌, ◌<◌, ◌≤◌, length};
-ghost use Rattle.certificate.specs.Layout.{remembers, takes_turns, links_of, turns_of, signals_of, modes_of, boxes_of, entries_of};
+ghost use Rattle.certificate.specs.Layout.{kind_byte_of, remembers, takes_turns, links_of, turns_of, signals_of, modes_of, boxes_of, entries_of};
 ghost use Rattle.certificate.specs.Records.{header_ok, header_marked, header_fault};
+ghost use Rattle.octets.specs.Refusals.{told};
+ghost use Rattle.header_record.specs.Kinds.{kind_of_byte, kind_remembers, kind_takes_turns};
 
-use certificate::{Report, limits};
+use certificate::limits;
+use octets::refusals;
+use octets::refusals::{Refusal, Refused};
 
-// The second bytes of the marks H2 and H3.
-const START_FLOW_KIND: usize = 50;
+// The kinds of certificates, each with the second byte of its mark: HD, H2 or H3.
+#[derive(Clone, Copy, PartialEq, Eq, Debug)]
+pub enum Kind {
+    Plain = 68,
+    // links have start flows, and modes remember the signal shown before
+    StartFlow = 50,
+    // modes have goals in turn besides
+    Goals = 51,
+}
 
-const GOALS_KIND: usize = 51;
+impl Kind {
+    pub fn of(s: &[u8]) -> Kind
+        ensures { result ≡ kind_of_byte (kind_byte_of s.now) }
+    {
+        Kind::of_byte(octets::byte_at(s, 1))
+    }
 
-// Whether the kind is H2 or H3: links have start flows, and modes remember the signal shown before.
+    // The same where there are two bytes at least: no test.
+    pub fn of_within(s: &[u8]) -> Kind
+        requires { 2 ≤ length s.now }
+        ensures { result ≡ kind_of_byte (kind_byte_of s.now) }
+    {
+        Kind::of_byte(octets::byte_within(s, 1))
+    }
+
+    // A mark of another byte is refused, and counts as plain until then.
+    fn of_byte(byte: usize) -> Kind
+        ensures { result ≡ kind_of_byte byte }
+    {
+        match byte {
+            51 => Kind::Goals,
+            50 => Kind::StartFlow,
+            _ => Kind::Plain,
+        }
+    }
+
+    // Whether links have start flows, and modes remember the signal shown before.
+    pub fn has_memory(self) -> bool
+        ensures { result ≡ kind_remembers self }
+    {
+        self != Kind::Plain
+    }
+
+    // Whether modes have goals in turn.
+    pub fn takes_turns(self) -> bool
+        ensures { result ≡ kind_takes_turns self }
+    {
+        self == Kind::Goals
+    }
+}
+
 pub fn has_memory(s: &[u8]) -> bool
     ensures { result ≡ remembers s.now }
 {
-    let kind = octets::byte_at(s, 1);
-    (kind == START_FLOW_KIND) | (kind == GOALS_KIND)
+    Kind::of(s).has_memory()
 }
 
 // The same where there are two bytes at least: no test.
@@ -25,15 +73,13 @@ pub fn has_memory_within(s: &[u8]) -> bool
     requires { 2 ≤ length s.now }
     ensures { result ≡ remembers s.now }
 {
-    let kind = octets::byte_within(s, 1);
-    (kind == START_FLOW_KIND) | (kind == GOALS_KIND)
+    Kind::of_within(s).has_memory()
 }
 
-// Whether the kind is H3: modes have goals in turn.
 pub fn takes_turns(s: &[u8]) -> bool
     ensures { result ≡ takes_turns s.now }
 {
-    octets::byte_at(s, 1) == GOALS_KIND
+    Kind::of(s).takes_turns()
 }
 
 pub fn links_of(s: &[u8]) -> usize
@@ -75,37 +121,26 @@ pub fn entries_of(s: &[u8]) -> usize
 fn counts_ok(s: &[u8]) -> bool
     ensures { result ≡ header_ok s.now }
 {
-    let links = links_of(s);
-    let turns = turns_of(s);
-    let signals = signals_of(s);
-    let modes = modes_of(s);
-    let boxes = boxes_of(s);
-    let entries = entries_of(s);
-    (1 <= links)
-        & (links <= limits::MAX_LINKS)
-        & (turns <= limits::MAX_TURNS)
-        & (1 <= signals)
-        & (signals <= limits::MAX_SIGNALS)
-        & (1 <= modes)
-        & (modes <= limits::MAX_MODES)
-        & (1 <= boxes)
-        & (boxes <= limits::MAX_BOXES)
-        & (1 <= entries)
-        & (entries <= limits::MAX_ENTRIES)
+    (1..=limits::MAX_LINKS).contains(&links_of(s))
+        & (turns_of(s) <= limits::MAX_TURNS)
+        & (1..=limits::MAX_SIGNALS).contains(&signals_of(s))
+        & (1..=limits::MAX_MODES).contains(&modes_of(s))
+        & (1..=limits::MAX_BOXES).contains(&boxes_of(s))
+        & (1..=limits::MAX_ENTRIES).contains(&entries_of(s))
 }
 
 // The mark is HD, H2 or H3.
 fn header_marked(s: &[u8]) -> bool
     ensures { result ≡ header_marked s.now }
 {
-    octets::marked_as(s, 0, 72, 68)
-        | octets::marked_as(s, 0, 72, START_FLOW_KIND)
-        | octets::marked_as(s, 0, 72, GOALS_KIND)
+    octets::marked_as(s, 0, 72, Kind::Plain as usize)
+        | octets::marked_as(s, 0, 72, Kind::StartFlow as usize)
+        | octets::marked_as(s, 0, 72, Kind::Goals as usize)
 }
 
-pub fn check_header(s: &[u8]) -> Report
-    ensures { result ≡ header_fault s.now }
+pub fn check_header(s: &[u8]) -> Result<(), Refused>
+    ensures { told result ≡ header_fault s.now }
 {
-    let opening = octets::check_opened(s, 0, header_marked(s), limits::HEADER_SIZE);
-    octets::record_result(opening, counts_ok(s), 3, 0)
+    refusals::check_opened(s, 0, header_marked(s), limits::HEADER_SIZE)?;
+    refusals::require(counts_ok(s), Refusal::Header, 0)
 }

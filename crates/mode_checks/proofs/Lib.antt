@@ -1,2 +1,2 @@
--- The tests of modes as loops.
+-- The tests of modes.
 pub mod ModeTests

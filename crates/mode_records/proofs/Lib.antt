@@ -1,2 +1,3 @@
--- Where the fields of a mode's record stand, and the greatest goal number.
+-- Where the fields of a mode's record stand, the greatest goal number, and loops over the numbers below one.
 pub mod ModeFields
+pub mod Ranges

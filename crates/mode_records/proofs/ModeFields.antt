@@ -15,18 +15,6 @@ module _ (s : List ℕ) {place : Place} (P : Placed s place) (m : ℕ) {o : ℕ}
   pub mode_here : o ≡ mode_at s m
   mode_here = here ∙ rw (P.start_is, P.size_is)
 
-  pub shown_here : {r : ℕ} → remembers s ≡ true → r ≡ byte_at s (o + 2) → r ≡ shown_before s m
-  unfolding shown_before
-  shown_here e h = h ∙ rw (e, mode_here)
-
-  pub number_here : {r : ℕ} → takes_turns s ≡ true → r ≡ byte_at s (o + 3) → r ≡ goal_number_of s m
-  unfolding goal_number_of
-  number_here e h = h ∙ rw (e, mode_here)
-
-  pub goal_here : (l : ℕ) {r : ℕ} → takes_turns s ≡ true → r ≡ u16_at s (o + (4 + 2 * l)) → r ≡ goal_for s m l
-  unfolding goal_for
-  goal_here l e h = h ∙ rw (e, mode_here)
-
 module _ (s : List ℕ) (m : ℕ) {o : ℕ} (here : o ≡ mode_at s m) where
   pub shown_held : {r : ℕ} → remembers s ≡ true → r ≡ byte_at s (o + 2) → r ≡ shown_before s m
   unfolding shown_before
@@ -53,7 +41,3 @@ greatest_more f m p q e = e ∙ rw (add-one, p, q)
 pub one_greatest : (s : List ℕ) → takes_turns s ≡ false → 0 ≡ greatest_goal s
 unfolding greatest_goal
 one_greatest s one = sym (none_greater (modes_of s) (goal_number_of s) (one_goal_layout s one).number)
-
-pub greatest_all : (s : List ℕ) (m : ℕ) {g : ℕ} → g ≡ greatest_to m (goal_number_of s) → m ≡ modes_of s → g ≡ greatest_goal s
-unfolding greatest_goal
-greatest_all s m p all = p ∙ rw all

@@ -4,7 +4,6 @@ ghost use Rattle.certificate.specs.Layout.{takes_turns, goal_number_of, goal_for
 ghost use Rattle.mode_records.specs.Placed.{Placed};
 
 use crate::modes;
-use octets::numbers;
 
 impl modes::Modes<'_> {
     pub fn goal_number(&self, m: usize) -> usize
@@ -21,43 +20,38 @@ impl modes::Modes<'_> {
     {
         octets::u16_at(self.bytes, self.record_at(m) + (4 + 2 * l))
     }
-}
 
-pub fn goal_number(s: &[u8], place: modes::Place, m: usize) -> usize
-    requires { (m < 256) × Placed s.now place × (takes_turns s.now ≡ true) }
-    ensures { (result ≡ goal_number_of s.now m) × (result < 256) }
-{
-    octets::byte_at(s, modes::mode_at(place, m) + 3)
-}
-
-// The goal of mode m on link l.
-pub fn goal_for(s: &[u8], place: modes::Place, m: usize, l: usize) -> usize
-    requires { (m < 256) × (l < 256) × Placed s.now place × (takes_turns s.now ≡ true) }
-    ensures { (result ≡ goal_for s.now m l) × (result < 65536) }
-{
-    octets::u16_at(s, modes::mode_at(place, m) + (4 + 2 * l))
-}
-
-// The greatest goal number used.
-pub fn greatest_of(s: &[u8], place: modes::Place) -> usize
-    requires { Placed s.now place × (takes_turns s.now ≡ true) }
-    ensures { (result ≡ greatest_goal s.now) × (result < 256) }
-{
-    let modes = header_record::modes_of(s);
-    let mut greatest = 0;
-    for m in 0..modes {
-        greatest = numbers::larger(greatest, goal_number(s, place, m));
+    // The greatest goal number used.
+    pub fn greatest_number(&self) -> usize
+        requires { takes_turns self.now.bytes.now ≡ true }
+        ensures { (result ≡ greatest_goal self.now.bytes.now) × (result < 256) }
+    {
+        (0..header_record::modes_of(self.bytes)).fold(
+            0,
+            |greatest, m| greatest.max(self.goal_number(m)),
+        )
     }
-    greatest
+
+    // The same of any certificate: 0 in HD and H2.
+    pub fn greatest_goal(&self) -> usize
+        ensures { (result ≡ greatest_goal self.now.bytes.now) × (result < 256) }
+    {
+        if header_record::takes_turns(self.bytes) {
+            return self.greatest_number();
+        }
+        0
+    }
 }
 
-// The same of any certificate: 0 in HD and H2.
+// for the crates above, until they read by a certificate
 pub fn greatest_goal(s: &[u8], place: modes::Place) -> usize
     requires { Placed s.now place }
     ensures { (result ≡ greatest_goal s.now) × (result < 256) }
 {
-    if header_record::takes_turns(s) {
-        return greatest_of(s, place);
+    modes::Modes {
+        bytes: s,
+        start: place.start,
+        size: place.size,
     }
-    0
+    .greatest_goal()
 }

@@ -6,13 +6,6 @@ ghost use Rattle.octets.specs.Bounds.{start_bound};
 
 use certificate::limits;
 
-// Where the records of modes begin, and the size of each.
-#[derive(Clone, Copy)]
-pub struct Place {
-    pub start: usize,
-    pub size: usize,
-}
-
 // The records of modes of a certificate: where they begin, and the size of each.
 #[derive(Clone, Copy)]
 pub struct Modes<'a> {
@@ -26,6 +19,28 @@ pub struct Modes<'a> {
 }
 
 impl<'a> Modes<'a> {
+    // Those of the certificate in `bytes`, which begin at `start`.
+    pub fn of(bytes: &'a [u8], start: usize) -> Modes<'a>
+        requires { (start ≤ start_bound) × (start ≡ modes_start bytes.now) }
+        ensures { (result.bytes.now ≡ bytes.now) × (result.start ≡ start) }
+    {
+        Modes {
+            bytes,
+            start,
+            size: size_of(bytes),
+        }
+    }
+
+    // How many records there are.
+    pub fn records(&self) -> usize
+        ensures { (result ≡ mode_records_of self.now.bytes.now) × (result ≤ modes_of self.now.bytes.now) × (result < 256) }
+    {
+        if header_record::has_memory(self.bytes) {
+            return header_record::modes_of(self.bytes);
+        }
+        0
+    }
+
     // Where the record of mode m stands.
     pub fn record_at(&self, m: usize) -> usize
         requires { m < 256 }
@@ -53,17 +68,23 @@ fn size_of(s: &[u8]) -> usize
     limits::PLAIN_MODE_SIZE
 }
 
+// for the crates above, until they read by a certificate
+#[derive(Clone, Copy)]
+pub struct Place {
+    pub start: usize,
+    pub size: usize,
+}
+
 pub fn place_of(s: &[u8], start: usize) -> Place
     requires { (start ≤ start_bound) × (start ≡ modes_start s.now) }
     ensures { Placed s.now result }
 {
     Place {
         start,
-        size: size_of(s),
+        size: Modes::of(s, start).size,
     }
 }
 
-// How many records there are, of so many modes.
 pub fn records_of(s: &[u8], modes: usize) -> usize
     requires { modes ≡ modes_of s.now }
     ensures { (result ≡ mode_records_of s.now) × (result ≤ modes) }
@@ -74,7 +95,6 @@ pub fn records_of(s: &[u8], modes: usize) -> usize
     0
 }
 
-// Where the record of mode m stands.
 pub fn mode_at(place: Place, m: usize) -> usize
     requires { (m < 256) × (place.start ≤ start_bound) × (place.size ≤ size_bound) }
     ensures { (result ≡ place.start + place.size * m) × (result ≤ 300000) }
@@ -82,10 +102,14 @@ pub fn mode_at(place: Place, m: usize) -> usize
     place.start + place.size * m
 }
 
-// The signal that mode m remembers, where modes do.
 pub fn shown_before(s: &[u8], place: Place, m: usize) -> usize
     requires { (m < 256) × Placed s.now place × (remembers s.now ≡ true) }
     ensures { (result ≡ shown_before s.now m) × (result < 256) }
 {
-    octets::byte_at(s, mode_at(place, m) + 2)
+    Modes {
+        bytes: s,
+        start: place.start,
+        size: place.size,
+    }
+    .shown_before(m)
 }

@@ -1,110 +1,25 @@
--- What reading finds out about where the records stand.
-use Rattle.std.specs.Prelude.{ℕ, ◌≤◌, ◌<◌, List, ◌≡◌, get_or, replicate, ltb}
+-- What reading finds out on its way, and what it answers.
+use Rattle.std.specs.Prelude.{ℕ, ◌≤◌, List, ◌≡◌, Result, IfOk}
 use Rattle.certificate.specs.declared.Report.{Report}
-use Rattle.reading.specs.declared.Layout.{Layout}
-use Rattle.reading.specs.declared.Reading.{Reading}
-use Rattle.reading.specs.declared.Starts.{Starts}
-use Rattle.certificate.specs.Loops.{pick}
 use Rattle.certificate.specs.Checks.{or_else}
-use Rattle.certificate.specs.Layout.{max_links, max_turns, max_signals, max_modes, max_boxes, max_entries, max_cells, links_of, turns_of, signals_of, modes_of, boxes_of, entries_of, turns_start, signals_start, modes_start, mode_size, grid_start, grid_at, cells_of, arrivals_start, entries_start}
+use Rattle.certificate.specs.Layout.{turns_start, signals_start, modes_start, grid_start}
 use Rattle.certificate.specs.Records.{end_fault}
 use Rattle.certificate.specs.Reading.{links_fault, turns_fault, signals_fault, modes_fault, grids_fault, arrivals_fault, entries_fault}
-use Rattle.octets.specs.Tables.{table_of}
-use Rattle.octets.specs.Bounds.{grids_bound, start_bound}
-use Rattle.mode_records.specs.Placed.{size_bound}
+use Rattle.octets.specs.Bounds.{grids_bound}
+use Rattle.octets.specs.declared.refusals.Refused.{Refused}
+use Rattle.octets.specs.Refusals.{told}
+use Rattle.reading.specs.declared.Certificate.{Certificate}
 
 -- where the records of turns, signals, modes and grids begin
-pub record StartsOf (s : List ℕ) (starts : Starts) : Type 0 where
-  pub turns_is : starts.turns ≡ turns_start s
-  pub turns_most : starts.turns ≤ grids_bound
-  pub signals_is : starts.signals ≡ signals_start s
-  pub signals_most : starts.signals ≤ grids_bound
-  pub modes_is : starts.modes ≡ modes_start s
-  pub modes_most : starts.modes ≤ grids_bound
-  pub grids_is : starts.grids ≡ grid_start s
-  pub grids_most : starts.grids ≤ grids_bound
-
--- where the grid record of link l stands, and 0 where there is no such link
-abbrev pub grid_place : List ℕ → ℕ → ℕ
-grid_place s l = pick (ltb l (links_of s)) (grid_at s l) 0
-
--- the layout of a certificate
-abbrev pub layout_of : List ℕ → Layout
-layout_of s =
-    record {
-      links = links_of s;
-      turns = turns_of s;
-      signals = signals_of s;
-      modes = modes_of s;
-      boxes = boxes_of s;
-      entries = entries_of s;
-      turns_start = turns_start s;
-      signals_start = signals_start s;
-      modes_start = modes_start s;
-      mode_size = mode_size s;
-      grids = table_of max_links (grid_place s);
-      arrivals_start = arrivals_start s;
-      entries_start = entries_start s;
-      cells = cells_of s;
-    }
-
--- a layout is that of s, field by field, within the limits of the format
-pub record LaidOut (s : List ℕ) (layout : Layout) : Type 0 where
-  pub is : layout ≡ layout_of s
-  pub links_are : layout.links ≡ links_of s
-  pub links_least : 1 ≤ layout.links
-  pub links_most : layout.links ≤ max_links
-  pub turns_are : layout.turns ≡ turns_of s
-  pub turns_most : layout.turns ≤ max_turns
-  pub signals_are : layout.signals ≡ signals_of s
-  pub signals_least : 1 ≤ layout.signals
-  pub signals_most : layout.signals ≤ max_signals
-  pub modes_are : layout.modes ≡ modes_of s
-  pub modes_least : 1 ≤ layout.modes
-  pub modes_most : layout.modes ≤ max_modes
-  pub boxes_are : layout.boxes ≡ boxes_of s
-  pub boxes_least : 1 ≤ layout.boxes
-  pub boxes_most : layout.boxes ≤ max_boxes
-  pub entries_are : layout.entries ≡ entries_of s
-  pub entries_least : 1 ≤ layout.entries
-  pub entries_most : layout.entries ≤ max_entries
-  pub turns_start_is : layout.turns_start ≡ turns_start s
-  pub turns_start_most : layout.turns_start ≤ start_bound
-  pub signals_start_is : layout.signals_start ≡ signals_start s
-  pub signals_start_most : layout.signals_start ≤ start_bound
-  pub modes_start_is : layout.modes_start ≡ modes_start s
-  pub modes_start_most : layout.modes_start ≤ start_bound
-  pub mode_size_is : layout.mode_size ≡ mode_size s
-  pub mode_size_most : layout.mode_size ≤ size_bound
-  pub grid_is : (l : ℕ) → l < links_of s → get_or layout.grids l 0 ≡ grid_at s l
-  pub grid_most : (l : ℕ) → l < links_of s → grid_at s l ≤ start_bound
-  pub arrivals_start_is : layout.arrivals_start ≡ arrivals_start s
-  pub arrivals_start_most : layout.arrivals_start ≤ start_bound
-  pub entries_start_is : layout.entries_start ≡ entries_start s
-  pub entries_start_most : layout.entries_start ≤ start_bound
-  pub cells_are : layout.cells ≡ cells_of s
-  pub cells_least : 1 ≤ layout.cells
-  pub cells_most : layout.cells ≤ max_cells
-
--- the layout that goes with a refusal
-abbrev pub no_layout : Layout
-no_layout =
-    record {
-      links = 0;
-      turns = 0;
-      signals = 0;
-      modes = 0;
-      boxes = 0;
-      entries = 0;
-      turns_start = 0;
-      signals_start = 0;
-      modes_start = 0;
-      mode_size = 0;
-      grids = replicate max_links 0;
-      arrivals_start = 0;
-      entries_start = 0;
-      cells = 0;
-    }
+pub record StartsOf (s : List ℕ) (turns signals modes grids : ℕ) : Type 0 where
+  pub turns_is : turns ≡ turns_start s
+  pub turns_most : turns ≤ grids_bound
+  pub signals_is : signals ≡ signals_start s
+  pub signals_most : signals ≤ grids_bound
+  pub modes_is : modes ≡ modes_start s
+  pub modes_most : modes ≤ grids_bound
+  pub grids_is : grids ≡ grid_start s
+  pub grids_most : grids ≤ grids_bound
 
 -- parts of reading: LK, TN, SG and MD; AR, EN and ZZ; all from GR on
 unfoldable pub network_fault : List ℕ → Report
@@ -116,8 +31,7 @@ tail_fault s = or_else (arrivals_fault s) (or_else (entries_fault s) (end_fault 
 unfoldable pub back_fault : List ℕ → Report
 back_fault s = or_else (grids_fault s) (tail_fault s)
 
--- what reading answers: the report, and the layout where that is no refusal
-pub record ReadAs (s : List ℕ) (fault : Report) (r : Reading) : Type 0 where
-  pub report_is : r.report ≡ fault
-  pub laid : r.report.number ≡ 0 → LaidOut s r.layout
-  pub none : (r.report.number ≡ 0 → ⊥) → r.layout ≡ no_layout
+-- what reading answers: the refusal, or the certificate that these bytes are
+pub record ReadAs (s : List ℕ) (fault : Report) (r : Result Certificate Refused) : Type 0 where
+  pub told_is : told r ≡ fault
+  pub bytes_are : IfOk r (λ c. c.bytes.now ≡ s)

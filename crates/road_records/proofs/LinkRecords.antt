@@ -2,16 +2,14 @@
 use Prim.Native.Nat.{ℕ, ◌+◌, ◌≤◌, ◌<◌}
 use mathlib.Core.Bool.{Bool, true, false}
 use mathlib.Core.List.{List}
-use mathlib.Core.Path.{◌≡◌, sym, ◌∙◌}
+use mathlib.Core.Path.{◌≡◌, refl, sym, ◌∙◌}
 use native.Mathlib.Omega.{arith}
 use lib.ListN.{length}
-use Rattle.certificate.specs.declared.Report.{Report}
 use Rattle.certificate.specs.Octets.{u16_at}
-use Rattle.certificate.specs.Checks.{refusal, fine, need, or_else, marked, opened}
+use Rattle.certificate.specs.Checks.{fine, opened}
 use Rattle.certificate.specs.Layout.{max_link_size, remembers, link_size, link_at, flow_of, start_flow_of}
-use Rattle.certificate.specs.Records.{link_ok, link_fault}
 use Rattle.certificate.proofs.KindSizes.{link_least}
-use Rattle.octets.proofs.Cases.{first, opened-whole}
+use Rattle.octets.proofs.Cases.{opened-whole}
 
 -- in H2 the record of a link is the longest
 pub link_long : (s : List ℕ) {memory : Bool} → memory ≡ remembers s → memory ≡ true → max_link_size ≡ link_size s
@@ -19,21 +17,12 @@ unfolding link_size
 link_long s is some = rw (sym is ∙ some)
 
 module _ (s : List ℕ) (l : ℕ) {o : ℕ} (here : o ≡ link_at s l) where
-  -- f is what the opening of the record answers
-  module _ {size : ℕ} (sized : size ≡ link_size s) {mark : Bool} {f : Report} (bears : mark ≡ marked s o 76 75) (opening : f ≡ opened s o mark size) where
-    pub link_unopened : (f.number ≡ 0 → ⊥) → f ≡ link_fault s l
-    unfolding link_fault
-    link_unopened bad = first f _ _ (opening ∙ rw (bears, here, sized)) bad
-
-    pub link_whole : f.number ≡ 0 → link_at s l + link_size s ≤ length s
-    link_whole z =
-        let least = link_least s in
-        let inside = opened-whole s o mark size (omega arith) opening z in
-        omega arith
-
-    pub link_result : {ok : Bool} {r : Report} → ok ≡ link_ok s l → r ≡ or_else f (need ok (refusal 4 o) fine) → r ≡ link_fault s l
-    unfolding link_fault
-    link_result p q = q ∙ rw (opening, bears, p, here, sized)
+  -- a record whose opening passes is there whole
+  pub link_whole : {size : ℕ} → size ≡ link_size s → (mark : Bool) → fine ≡ opened s o mark size → link_at s l + link_size s ≤ length s
+  link_whole {size} sized mark opening =
+      let least = link_least s in
+      let inside = opened-whole s o mark size (omega arith) opening refl in
+      omega arith
 
   -- in H2 its last field is the start flow
   module _ {memory : Bool} (is : memory ≡ remembers s) (some : memory ≡ true) where

@@ -4,8 +4,10 @@ ghost use Rattle.certificate.specs.Octets.{byte_at, u16_at};
 ghost use Rattle.certificate.specs.Checks.{first_bad};
 ghost use Rattle.certificate.specs.Layout.{plain_link_size, max_link_size, remembers, link_at, link_size, tail_of, head_of, cap_of, flow_of, safe_of, goal_of, start_flow_of};
 ghost use Rattle.certificate.specs.Records.{link_ok, link_fault};
+ghost use Rattle.octets.specs.Refusals.{told};
 
-use certificate::{Report, limits};
+use certificate::limits;
+use octets::refusals::{self, Refusal, Refused};
 
 // The size of a link's record, by whether the kind is H2 or H3.
 pub fn size_for(s: &[u8], memory: bool) -> usize
@@ -13,9 +15,10 @@ pub fn size_for(s: &[u8], memory: bool) -> usize
     ensures { (result ≡ link_size s.now) × (plain_link_size ≤ result) × (result ≤ max_link_size) }
 {
     if memory {
-        return limits::MAX_LINK_SIZE;
+        limits::MAX_LINK_SIZE
+    } else {
+        limits::PLAIN_LINK_SIZE
     }
-    limits::PLAIN_LINK_SIZE
 }
 
 // Where the record of link l stands, by the size of one.
@@ -49,7 +52,7 @@ fn link_u16(s: &[u8], l: usize, k: usize) -> usize
     octets::u16_at(s, link_at(s, l) + k)
 }
 
-// The same where the link is there whole: no test.
+// The same where the link is there whole: no test, for speed (a byte past the end reads as 0, so no one test would let those above call these).
 fn link_byte_within(s: &[u8], l: usize, k: usize) -> usize
     requires { (l < 256) × (k < plain_link_size) × (link_at s.now l + link_size s.now ≤ length s.now) }
     ensures { (result ≡ byte_at s.now (link_at s.now l + k)) × (result < 256) }
@@ -114,9 +117,10 @@ pub fn start_flow_of(s: &[u8], l: usize) -> usize
     ensures { (result ≡ start_flow_of s.now l) × (result < 65536) }
 {
     if header_record::has_memory(s) {
-        return link_u16(s, l, 12);
+        link_u16(s, l, 12)
+    } else {
+        flow_of(s, l)
     }
-    flow_of(s, l)
 }
 
 // Cap, flow and start flow of a link that is there whole: no test.
@@ -140,9 +144,10 @@ fn start_flow_within(s: &[u8], l: usize) -> usize
 {
     if header_record::has_memory_within(s) {
         let o = place_for(s, limits::MAX_LINK_SIZE, l);
-        return octets::u16_within(s, o + 12);
+        octets::u16_within(s, o + 12)
+    } else {
+        flow_within(s, l)
     }
-    flow_within(s, l)
 }
 
 // The fields of a link that is there whole are as they must be.
@@ -167,28 +172,22 @@ fn link_ok(s: &[u8], l: usize) -> bool
         & (start <= flow)
 }
 
-fn check_link(s: &[u8], l: usize) -> Report
+fn check_link(s: &[u8], l: usize) -> Result<(), Refused>
     requires { l < 256 }
-    ensures { result ≡ link_fault s.now l }
+    ensures { told result ≡ link_fault s.now l }
 {
     let size = size_for(s, header_record::has_memory(s));
     let o = place_for(s, size, l);
-    let opening = octets::check_opened(s, o, octets::marked_as(s, o, 76, 75), size);
-    if opening.number != 0 {
-        return opening;
-    }
-    octets::record_result(opening, link_ok(s, l), 4, o)
+    refusals::check_opened(s, o, octets::marked_as(s, o, 76, 75), size)?;
+    refusals::require(link_ok(s, l), Refusal::Link, o)
 }
 
-pub fn check_links(s: &[u8], links: usize) -> Report
+pub fn check_links(s: &[u8], links: usize) -> Result<(), Refused>
     requires { links < 256 }
-    ensures { result ≡ first_bad links (link_fault s.now) }
+    ensures { told result ≡ first_bad links (link_fault s.now) }
 {
     for l in 0..links {
-        let f = check_link(s, l);
-        if f.number != 0 {
-            return f;
-        }
+        check_link(s, l)?;
     }
-    octets::accept()
+    Ok(())
 }

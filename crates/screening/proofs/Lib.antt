@@ -1,4 +1,2 @@
--- Pull sums by one pass over the turns, and the tests before 12 put together.
-pub mod Bounds
-pub mod Screens
+-- Sums by the link that turns lead to, kept by one pass over the turns.
 pub mod Summing

@@ -1,130 +1,92 @@
-// Conditions 10 and 11. `start` is where the records of turns begin, `greens` those of signals; `byte` has a signal's green links.
-ghost use Rattle.std.specs.Prelude.{◌≡◌, ℕ, ◌+◌, ◌*◌, ◌<◌, ◌≤◌, leb, length, get_or};
+// Conditions 10 and 11. `byte` has a signal's green links.
+ghost use Rattle.std.specs.Prelude.{◌≡◌, ℕ, ◌*◌, ◌<◌, ◌≤◌, leb, get_or};
 ghost use Rattle.certificate.specs.Octets.{bit_of};
 ghost use Rattle.certificate.specs.Loops.{pick};
 ghost use Rattle.certificate.specs.Checks.{report_with, fine, need};
-ghost use Rattle.certificate.specs.Layout.{max_pull_sum, links_of, signals_of, cap_of, flow_of, turns_start, turn_at, turn_size, from_of, to_of, share_of, pull_of, signals_start, green_byte_of};
+ghost use Rattle.certificate.specs.Layout.{max_share, max_pull, max_pull_sum, links_of, turns_of, signals_of, from_of, share_of, pull_of};
 ghost use Rattle.network.specs.Network.{network_of};
-ghost use Rattle.network.specs.Conditions.{pull_sum, signal_pulls_fault, pulls_fault, room_ok, room_fault, rooms_fault};
-ghost use Rattle.screening.specs.NetworkParts.{NetworkAt};
-ghost use Rattle.octets.specs.Bounds.{start_bound};
+ghost use Rattle.network.specs.Conditions.{pull_sum, signal_pulls_fault, pulls_fault, room_ok, rooms_fault};
+ghost use Rattle.octets.specs.Refusals.{told};
 
-use certificate::{Report, limits};
-use road_records::links;
+use certificate::limits;
+use octets::refusals::{Refusal, Refused, refuse_at, require};
+use reading::Certificate;
 use signal_records::signals;
-use turn_records::turns;
-
-// Whether turn t leads from a green link.
-fn from_green(s: &[u8], start: usize, byte: usize, t: usize) -> bool
-    requires { (t < 256) × (start ≤ start_bound) × (start ≡ turns_start s.now) × (from_of s.now t < 8) × (turn_at s.now t + turn_size ≤ length s.now) }
-    ensures { result ≡ bit_of byte (from_of s.now t) }
-{
-    signals::is_green(byte, turns::from_within(s, start, t))
-}
 
 // Share × pull of turn t where its from link is green, else 0.
-fn green_pull(s: &[u8], start: usize, byte: usize, t: usize) -> usize
-    requires { (t < 256) × (start ≤ start_bound) × (start ≡ turns_start s.now) × (from_of s.now t < 8) × (turn_at s.now t + turn_size ≤ length s.now) }
-    ensures { (result ≡ pick (bit_of byte (from_of s.now t)) (share_of s.now t * pull_of s.now t) 0) × (result ≤ 16711425) }
+fn green_pull(certificate: &Certificate<'_>, byte: usize, t: usize) -> usize
+    requires { t < turns_of certificate.now.bytes.now }
+    ensures { (result ≡ pick (bit_of byte (from_of certificate.now.bytes.now t)) (share_of certificate.now.bytes.now t * pull_of certificate.now.bytes.now t) 0) × (result ≤ max_share * max_pull) }
 {
-    if from_green(s, start, byte, t) {
-        return turns::share_within(s, start, t) * turns::pull_within(s, start, t);
+    if signals::is_green(byte, certificate.from_of(t)) {
+        certificate.share_of(t) * certificate.pull_of(t)
+    } else {
+        0
     }
-    0
 }
 
 // The pull sum of each link, by one pass over the turns.
-fn pull_sums(s: &[u8], start: usize, turns: usize, byte: usize) -> [usize; limits::MAX_LINKS]
-    requires { NetworkAt s.now start turns (links_of s.now) }
-    ensures { ((l : ℕ) → l < links_of s.now → get_or result l 0 ≡ pull_sum (network_of s.now) (bit_of byte) l) }
+fn pull_sums(certificate: &Certificate<'_>, byte: usize) -> [usize; limits::MAX_LINKS]
+    ensures { (l : ℕ) → l < links_of certificate.now.bytes.now → get_or result l 0 ≡ pull_sum (network_of certificate.now.bytes.now) (bit_of byte) l }
 {
     let mut sums = [0usize; limits::MAX_LINKS];
-    for t in 0..turns {
-        let to = turns::to_within(s, start, t);
-        let more = green_pull(s, start, byte, t);
-        sums[to] = sums[to] + more;
+    for t in 0..certificate.layout.turns {
+        let to = certificate.to_of(t);
+        sums[to] += green_pull(certificate, byte, t);
     }
     sums
 }
 
 // 10 of signal g and link l, by the link's pull sum.
-fn check_pull(sum: usize, g: usize, l: usize) -> Report
+fn check_pull(sum: usize, g: usize, l: usize) -> Result<(), Refused>
     requires { (g < 256) × (l < 256) }
-    ensures { result ≡ need (leb sum max_pull_sum) (report_with 10 g l 0) fine }
+    ensures { told result ≡ need (leb sum max_pull_sum) (report_with 10 g l 0) fine }
 {
     if sum <= limits::MAX_PULL_SUM {
-        return octets::accept();
+        Ok(())
+    } else {
+        Err(refuse_at(Refusal::PullSum, g, l, 0))
     }
-    octets::report(10, g, l, 0)
 }
 
 // 10 of signal g: links ascending.
-fn check_signal(s: &[u8], start: usize, turns: usize, links: usize, byte: usize, g: usize) -> Report
-    requires { NetworkAt s.now start turns links × (g < 256) × (byte ≡ green_byte_of s.now g) }
-    ensures { result ≡ signal_pulls_fault s.now g }
+fn check_signal(certificate: &Certificate<'_>, g: usize) -> Result<(), Refused>
+    requires { g < signals_of certificate.now.bytes.now }
+    ensures { told result ≡ signal_pulls_fault certificate.now.bytes.now g }
 {
-    let sums = pull_sums(s, start, turns, byte);
-    for l in 0..links {
-        let f = check_pull(sums[l], g, l);
-        if f.number != 0 {
-            return f;
-        }
+    let sums = pull_sums(certificate, certificate.green_byte_of(g));
+    for l in 0..certificate.layout.links {
+        check_pull(sums[l], g, l)?;
     }
-    octets::accept()
+    Ok(())
 }
 
 // Condition 10: signals, then links ascending.
-pub fn check_pulls(
-    s: &[u8],
-    start: usize,
-    turns: usize,
-    links: usize,
-    greens: usize,
-    signals: usize,
-) -> Report
-    requires { NetworkAt s.now start turns links × (greens ≤ start_bound) × (greens ≡ signals_start s.now) × (signals ≡ signals_of s.now) }
-    ensures { result ≡ pulls_fault s.now }
+pub fn check_pulls(certificate: &Certificate<'_>) -> Result<(), Refused>
+    ensures { told result ≡ pulls_fault certificate.now.bytes.now }
 {
-    for g in 0..signals {
-        let byte = signals::green_byte_of(s, greens, g);
-        let f = check_signal(s, start, turns, links, byte, g);
-        if f.number != 0 {
-            return f;
-        }
+    for g in 0..certificate.layout.signals {
+        check_signal(certificate, g)?;
     }
-    octets::accept()
+    Ok(())
 }
 
 // Whether turn t leaves room: 100 × flow of from is at most pull × (cap − flow) of to.
-fn room_ok(s: &[u8], start: usize, t: usize) -> bool
-    requires { (t < 256) × (start ≤ start_bound) × (start ≡ turns_start s.now) × (flow_of s.now (to_of s.now t) ≤ cap_of s.now (to_of s.now t)) }
-    ensures { result ≡ room_ok s.now t }
+fn room_ok(certificate: &Certificate<'_>, t: usize) -> bool
+    requires { t < turns_of certificate.now.bytes.now }
+    ensures { result ≡ room_ok certificate.now.bytes.now t }
 {
-    let to = turns::to_of(s, start, t);
-    let room = links::cap_of(s, to) - links::flow_of(s, to);
-    100 * links::flow_of(s, turns::from_of(s, start, t)) <= turns::pull_of(s, start, t) * room
-}
-
-fn check_room(s: &[u8], start: usize, t: usize) -> Report
-    requires { (t < 256) × (start ≤ start_bound) × (start ≡ turns_start s.now) × (flow_of s.now (to_of s.now t) ≤ cap_of s.now (to_of s.now t)) }
-    ensures { result ≡ room_fault s.now t }
-{
-    if !room_ok(s, start, t) {
-        return octets::refuse(11, t);
-    }
-    octets::accept()
+    let to = certificate.to_of(t);
+    let room = certificate.cap_of(to) - certificate.flow_of(to);
+    100 * certificate.flow_of(certificate.from_of(t)) <= certificate.pull_of(t) * room
 }
 
 // Condition 11: turns ascending.
-pub fn check_rooms(s: &[u8], start: usize, turns: usize) -> Report
-    requires { NetworkAt s.now start turns (links_of s.now) }
-    ensures { result ≡ rooms_fault s.now }
+pub fn check_rooms(certificate: &Certificate<'_>) -> Result<(), Refused>
+    ensures { told result ≡ rooms_fault certificate.now.bytes.now }
 {
-    for t in 0..turns {
-        let f = check_room(s, start, t);
-        if f.number != 0 {
-            return f;
-        }
+    for t in 0..certificate.layout.turns {
+        require(room_ok(certificate, t), Refusal::Room, t)?;
     }
-    octets::accept()
+    Ok(())
 }

@@ -1,12 +1,14 @@
-// SG: one record a signal, the byte of its green links. `start` is where the records of signals begin.
+// SG: one record a signal, the byte of its green links.
 ghost use Rattle.std.specs.Prelude.{◌≡◌, ◌+◌, ◌*◌, ◌<◌, ◌≤◌, ◌^◌};
 ghost use Rattle.certificate.specs.Octets.{bit_of};
 ghost use Rattle.certificate.specs.Checks.{first_bad};
-ghost use Rattle.certificate.specs.Layout.{max_links, links_of, signal_size, signals_start, green_byte_of};
+ghost use Rattle.certificate.specs.Layout.{max_links, links_of, signal_size, signals_start, signal_at, green_byte_of};
 ghost use Rattle.certificate.specs.Records.{signal_ok, signal_fault};
 ghost use Rattle.octets.specs.Bounds.{start_bound};
+ghost use Rattle.octets.specs.Refusals.{told};
 
-use certificate::{Report, limits};
+use certificate::limits;
+use octets::refusals::{self, Refusal, Refused};
 
 // The records of signals of a certificate: where they begin.
 #[derive(Clone, Copy)]
@@ -18,27 +20,42 @@ pub struct Signals<'a> {
 }
 
 impl<'a> Signals<'a> {
+    // Where the record of signal g stands.
+    pub fn record_at(&self, g: usize) -> usize
+        requires { g < 256 }
+        ensures { (result ≡ signal_at self.now.bytes.now g) × (result ≤ 101000) }
+    {
+        self.start + limits::SIGNAL_SIZE * g
+    }
+
+    // The byte of its green links.
     pub fn green_byte_of(&self, g: usize) -> usize
         requires { g < 256 }
         ensures { (result ≡ green_byte_of self.now.bytes.now g) × (result < 256) }
     {
-        green_byte_of(self.bytes, self.start, g)
+        octets::byte_at(self.bytes, self.record_at(g) + 2)
     }
-}
 
-// Where the record of signal g stands.
-pub fn signal_at(start: usize, g: usize) -> usize
-    requires { (g < 256) × (start ≤ start_bound) }
-    ensures { (result ≡ start + signal_size * g) × (result ≤ 101000) }
-{
-    start + limits::SIGNAL_SIZE * g
-}
+    fn check(&self, links: usize, g: usize) -> Result<(), Refused>
+        requires { (g < 256) × (links ≤ max_links) × (links ≡ links_of self.now.bytes.now) }
+        ensures { told result ≡ signal_fault self.now.bytes.now g }
+    {
+        let o = self.record_at(g);
+        let marked = octets::marked_as(self.bytes, o, 83, 71);
+        refusals::check_opened(self.bytes, o, marked, limits::SIGNAL_SIZE)?;
+        refusals::require(self.green_byte_of(g) < power(links), Refusal::Signal, o)
+    }
 
-pub fn green_byte_of(s: &[u8], start: usize, g: usize) -> usize
-    requires { (g < 256) × (start ≤ start_bound) × (start ≡ signals_start s.now) }
-    ensures { (result ≡ green_byte_of s.now g) × (result < 256) }
-{
-    octets::byte_at(s, signal_at(start, g) + 2)
+    // The tests of so many signals.
+    pub fn check_all(&self, links: usize, count: usize) -> Result<(), Refused>
+        requires { (count < 256) × (links ≤ max_links) × (links ≡ links_of self.now.bytes.now) }
+        ensures { told result ≡ first_bad count (signal_fault self.now.bytes.now) }
+    {
+        for g in 0..count {
+            self.check(links, g)?;
+        }
+        Ok(())
+    }
 }
 
 // Whether link l is green, by a signal's byte.
@@ -57,24 +74,17 @@ fn power(n: usize) -> usize
     1 << n
 }
 
-fn check_signal(s: &[u8], start: usize, links: usize, g: usize) -> Report
-    requires { (g < 256) × (start ≤ start_bound) × (start ≡ signals_start s.now) × (links ≤ max_links) × (links ≡ links_of s.now) }
-    ensures { result ≡ signal_fault s.now g }
+// for the crates above, until they read by a certificate
+pub fn signal_at(start: usize, g: usize) -> usize
+    requires { (g < 256) × (start ≤ start_bound) }
+    ensures { (result ≡ start + signal_size * g) × (result ≤ 101000) }
 {
-    let o = signal_at(start, g);
-    let opening = octets::check_opened(s, o, octets::marked_as(s, o, 83, 71), limits::SIGNAL_SIZE);
-    octets::record_result(opening, green_byte_of(s, start, g) < power(links), 6, o)
+    start + limits::SIGNAL_SIZE * g
 }
 
-pub fn check_signals(s: &[u8], start: usize, links: usize, signals: usize) -> Report
-    requires { (signals < 256) × (start ≤ start_bound) × (start ≡ signals_start s.now) × (links ≤ max_links) × (links ≡ links_of s.now) }
-    ensures { result ≡ first_bad signals (signal_fault s.now) }
+pub fn green_byte_of(s: &[u8], start: usize, g: usize) -> usize
+    requires { (g < 256) × (start ≤ start_bound) × (start ≡ signals_start s.now) }
+    ensures { (result ≡ green_byte_of s.now g) × (result < 256) }
 {
-    for g in 0..signals {
-        let f = check_signal(s, start, links, g);
-        if f.number != 0 {
-            return f;
-        }
-    }
-    octets::accept()
+    Signals { bytes: s, start }.green_byte_of(g)
 }

@@ -1,2 +1,3 @@
--- Totals of shares, one turn after another.
+-- The order of pairs, and totals of shares, one turn after another.
+pub mod Pairs
 pub mod TurnTotals

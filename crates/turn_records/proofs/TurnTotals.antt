@@ -10,11 +10,12 @@ use native.Mathlib.Omega.{arith}
 use borrow.Author.Tests.{eq-eqb, ne_eqb}
 use lib.Dec.{leb, eqb}
 use Rattle.certificate.specs.Octets.{◌also◌}
-use Rattle.certificate.specs.declared.Report.{Report}
+use Rattle.octets.proofs.Cases.{opened-whole}
+use Rattle.certificate.specs.Checks.{fine, opened}
 use Rattle.certificate.specs.Loops.{pick, sum_to}
-use Rattle.certificate.specs.Layout.{from_of, to_of, share_of}
+use Rattle.certificate.specs.Layout.{turn_size, turn_at, from_of, to_of, share_of}
 use Rattle.certificate.specs.Records.{pair_below, turn_ascends, share_total, turn_ok, turn_fault}
-use Rattle.turn_records.specs.ShareTotals.{turn_fits, SharesBefore}
+use Rattle.turn_records.specs.ShareTotals.{TurnWhole, turn_fits, SharesBefore}
 use Rattle.certificate.proofs.Ascending.{pairs_ascend, ascends_first, ascends_after}
 use Rattle.certificate.proofs.Tests.{and_both}
 use Rattle.certificate.proofs.Loops.{sum_none}
@@ -75,13 +76,20 @@ module _ (s : List ℕ) where
   pub shares_none : SharesBefore s 0 0
   shares_none = record { passed = λ u lt. absurd (omega arith); total = λ lt. absurd (omega arith); most = omega arith }
 
-  pub shares_next : {t before total' : ℕ} {r : Report} → SharesBefore s t before → (turn_ascends s t ≡ true → total' ≡ share_total s t)
-      → r ≡ turn_fault s t → r.number ≡ 0 → SharesBefore s (t + 1) total'
-  shares_next {t} {before} {total'} {r} B h e z =
-      let said = (turn_says s t).0 (rw e at z) in
+  pub shares_next : {t before total' : ℕ} → SharesBefore s t before → (turn_ascends s t ≡ true → total' ≡ share_total s t)
+      → fine ≡ turn_fault s t → SharesBefore s (t + 1) total'
+  shares_next {t} {before} {total'} B h e =
+      let passes : (turn_fault s t).number ≡ 0 = rw (← e) in
+      let said = (turn_says s t).0 passes in
       let now' : total' ≡ share_total s t = h said.2 in
       record {
-        passed = λ u lt. ⊎_elim (λ (q : u ≡ t). rw (q, ← e) z) (λ l. B.passed u l) (eq-or-lt_of_le (let b : u ≤ t = omega arith in b));
+        passed = λ u lt. ⊎_elim (λ (q : u ≡ t). rw q passes) (λ l. B.passed u l) (eq-or-lt_of_le (let b : u ≤ t = omega arith in b));
         total = λ lt. let n : t + 1 - 1 ≡ t = omega arith in rw n now';
         most = omega (arith, said.3);
       }
+
+  -- a turn whose opening passes is there whole
+  pub turn_whole : (t : ℕ) {o : ℕ} → o ≡ turn_at s t → (mark : Bool) → fine ≡ opened s o mark turn_size → TurnWhole s t
+  turn_whole t {o} here mark opening =
+      let inside = opened-whole s o mark turn_size (omega arith) opening refl in
+      omega (arith, here)

@@ -1,8 +1,12 @@
 -- What reading carries along from one record to the next.
-use Rattle.std.specs.Prelude.{ℕ, ◌-◌, ◌≤◌, ◌<◌, Bool, List, ◌≡◌, ltb, leb, eqb}
+use Rattle.std.specs.Prelude.{ℕ, ◌+◌, ◌-◌, ◌≤◌, ◌<◌, Bool, List, length, ◌≡◌, ltb, leb, eqb}
 use Rattle.certificate.specs.Octets.{◌also◌}
-use Rattle.certificate.specs.Layout.{max_share, max_pull, links_of, tail_of, head_of, from_of, to_of, share_of, pull_of}
+use Rattle.certificate.specs.Layout.{max_share, max_pull, turn_size, links_of, turn_at, tail_of, head_of, from_of, to_of, share_of, pull_of}
 use Rattle.certificate.specs.Records.{turn_fault, share_total}
+
+-- the record of turn t is there whole
+abbrev pub TurnWhole : List ℕ → ℕ → Type 0
+TurnWhole s t = turn_at s t + turn_size ≤ length s
 
 -- the tests of turn t (certificate specs/Records.antt, `turn_ok`) that do not look at other turns
 abbrev pub turn_fits : List ℕ → ℕ → Bool

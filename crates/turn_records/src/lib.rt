@@ -1,5 +1,4 @@
 // Turns: the fields of their records and their tests (refusal 5).
 #![tactic(auto)]
 
-mod pairs;
 pub mod turns;

@@ -1,14 +1,15 @@
-// TN: one record a turn, its fields and its tests. `start` is where the records of turns begin.
-ghost use Rattle.std.specs.Prelude.{true, ◌≡◌, ◌+◌, ◌*◌, ◌<◌, ◌≤◌, length};
+// TN: one record a turn, its fields and its tests.
+ghost use Rattle.std.specs.Prelude.{true, ◌≡◌, ◌+◌, ◌*◌, ◌<◌, ◌≤◌, IfOk};
 ghost use Rattle.certificate.specs.Octets.{byte_at};
 ghost use Rattle.certificate.specs.Checks.{first_bad};
 ghost use Rattle.certificate.specs.Layout.{links_of, turns_start, turn_at, turn_size, from_of, to_of, share_of, pull_of};
-ghost use Rattle.turn_records.specs.ShareTotals.{SharesBefore, turn_fits};
+ghost use Rattle.turn_records.specs.ShareTotals.{TurnWhole, SharesBefore, turn_fits};
 ghost use Rattle.certificate.specs.Records.{turn_ascends, share_total, turn_ok, turn_fault};
 ghost use Rattle.octets.specs.Bounds.{start_bound};
+ghost use Rattle.octets.specs.Refusals.{told};
 
-use crate::pairs;
-use certificate::{Report, limits};
+use certificate::limits;
+use octets::refusals::{self, Refusal, Refused};
 use road_records::links;
 
 // The records of turns of a certificate: where they begin.
@@ -21,58 +22,162 @@ pub struct Turns<'a> {
 }
 
 impl<'a> Turns<'a> {
+    // Where the record of turn t stands.
+    pub fn record_at(&self, t: usize) -> usize
+        requires { t < 256 }
+        ensures { (result ≡ turn_at self.now.bytes.now t) × (result ≤ 102000) }
+    {
+        self.start + limits::TURN_SIZE * t
+    }
+
+    // The byte at offset k of the record of turn t, which is there whole: no test.
+    fn byte_within(&self, t: usize, k: usize) -> usize
+        requires { (t < 256) × (k < turn_size) × TurnWhole self.now.bytes.now t }
+        ensures { (result ≡ byte_at self.now.bytes.now (turn_at self.now.bytes.now t + k)) × (result < 256) }
+    {
+        octets::byte_within(self.bytes, self.record_at(t) + k)
+    }
+
+    // The fields of a turn that is there whole.
+    pub fn from_within(&self, t: usize) -> usize
+        requires { (t < 256) × TurnWhole self.now.bytes.now t }
+        ensures { (result ≡ from_of self.now.bytes.now t) × (result < 256) }
+    {
+        self.byte_within(t, 2)
+    }
+
+    pub fn to_within(&self, t: usize) -> usize
+        requires { (t < 256) × TurnWhole self.now.bytes.now t }
+        ensures { (result ≡ to_of self.now.bytes.now t) × (result < 256) }
+    {
+        self.byte_within(t, 3)
+    }
+
+    pub fn share_within(&self, t: usize) -> usize
+        requires { (t < 256) × TurnWhole self.now.bytes.now t }
+        ensures { (result ≡ share_of self.now.bytes.now t) × (result < 256) }
+    {
+        self.byte_within(t, 4)
+    }
+
+    pub fn pull_within(&self, t: usize) -> usize
+        requires { (t < 256) × TurnWhole self.now.bytes.now t }
+        ensures { (result ≡ pull_of self.now.bytes.now t) × (result < 65536) }
+    {
+        octets::u16_within(self.bytes, self.record_at(t) + 5)
+    }
+
+    // The pair of turn t is above that of the turn before it.
+    fn ascends(&self, t: usize) -> bool
+        requires { (t < 256) × TurnWhole self.now.bytes.now t }
+        ensures { result ≡ turn_ascends self.now.bytes.now t }
+    {
+        if t == 0 {
+            return true;
+        }
+        (self.from_within(t - 1), self.to_within(t - 1)) < (self.from_within(t), self.to_within(t))
+    }
+
+    // What the shares from the link of turn t total up to it, where `before` is that total up to the turn before.
+    // Pairs ascend, so the turns of a link stand together.
+    fn share_total(&self, t: usize, before: usize) -> usize
+        requires { (t < 256) × TurnWhole self.now.bytes.now t × SharesBefore self.now.bytes.now t before }
+        ensures { turn_ascends self.now.bytes.now t ≡ true → result ≡ share_total self.now.bytes.now t }
+    {
+        let share = self.share_within(t);
+        if t == 0 {
+            return share;
+        }
+        if self.from_within(t - 1) == self.from_within(t) {
+            return before + share;
+        }
+        share
+    }
+
+    // The tests of a turn that do not look at other turns.
+    fn fits(&self, links: usize, t: usize) -> bool
+        requires { (t < 256) × TurnWhole self.now.bytes.now t × (links ≡ links_of self.now.bytes.now) }
+        ensures { result ≡ turn_fits self.now.bytes.now t }
+    {
+        let from = self.from_within(t);
+        let to = self.to_within(t);
+        let share = self.share_within(t);
+        let pull = self.pull_within(t);
+        (from < links)
+            & (to < links)
+            & (links::head_of(self.bytes, from) == links::tail_of(self.bytes, to))
+            & (1 <= share)
+            & (share <= limits::MAX_SHARE)
+            & (1 <= pull)
+            & (pull <= limits::MAX_PULL)
+    }
+
+    fn passes(&self, links: usize, t: usize, total: usize) -> bool
+        requires { (t < 256) × TurnWhole self.now.bytes.now t × (links ≡ links_of self.now.bytes.now)
+            × (turn_ascends self.now.bytes.now t ≡ true → total ≡ share_total self.now.bytes.now t) }
+        ensures { result ≡ turn_ok self.now.bytes.now t }
+    {
+        self.fits(links, t) & self.ascends(t) & (total <= limits::MAX_SHARE)
+    }
+
+    // The tests of turn t, where those before it pass; answers what the shares from its link total up to it.
+    fn check(&self, links: usize, t: usize, before: usize) -> Result<usize, Refused>
+        requires { (t < 256) × (links ≡ links_of self.now.bytes.now) × SharesBefore self.now.bytes.now t before }
+        ensures { (told result ≡ turn_fault self.now.bytes.now t) × IfOk result (λ total. SharesBefore self.now.bytes.now (t + 1) total) }
+    {
+        let o = self.record_at(t);
+        let marked = octets::marked_as(self.bytes, o, 84, 78);
+        refusals::check_opened(self.bytes, o, marked, limits::TURN_SIZE)?;
+        let total = self.share_total(t, before);
+        refusals::require(self.passes(links, t, total), Refusal::Turn, o)?;
+        Ok(total)
+    }
+
+    // The tests of so many turns.
+    pub fn check_all(&self, links: usize, count: usize) -> Result<(), Refused>
+        requires { (count < 256) × (links ≡ links_of self.now.bytes.now) }
+        ensures { told result ≡ first_bad count (turn_fault self.now.bytes.now) }
+    {
+        let mut total = 0;
+        for t in 0..count {
+            total = self.check(links, t, total)?;
+        }
+        Ok(())
+    }
+}
+
+// for the crates above, until they read by a certificate
+impl<'a> Turns<'a> {
+    // The byte at offset k of the record of turn t, 0 past the end.
+    fn byte_of(&self, t: usize, k: usize) -> usize
+        requires { (t < 256) × (k < 256) }
+        ensures { (result ≡ byte_at self.now.bytes.now (turn_at self.now.bytes.now t + k)) × (result < 256) }
+    {
+        octets::byte_at(self.bytes, self.record_at(t) + k)
+    }
+
     pub fn from_of(&self, t: usize) -> usize
         requires { t < 256 }
         ensures { (result ≡ from_of self.now.bytes.now t) × (result < 256) }
     {
-        from_of(self.bytes, self.start, t)
+        self.byte_of(t, 2)
     }
 
     pub fn to_of(&self, t: usize) -> usize
         requires { t < 256 }
         ensures { (result ≡ to_of self.now.bytes.now t) × (result < 256) }
     {
-        to_of(self.bytes, self.start, t)
+        self.byte_of(t, 3)
     }
 
     pub fn pull_of(&self, t: usize) -> usize
         requires { t < 256 }
         ensures { (result ≡ pull_of self.now.bytes.now t) × (result < 65536) }
     {
-        pull_of(self.bytes, self.start, t)
-    }
-
-    // The same fields of a turn that is there whole: no test.
-    pub fn from_within(&self, t: usize) -> usize
-        requires { (t < 256) × (turn_at self.now.bytes.now t + turn_size ≤ length self.now.bytes.now) }
-        ensures { (result ≡ from_of self.now.bytes.now t) × (result < 256) }
-    {
-        from_within(self.bytes, self.start, t)
-    }
-
-    pub fn to_within(&self, t: usize) -> usize
-        requires { (t < 256) × (turn_at self.now.bytes.now t + turn_size ≤ length self.now.bytes.now) }
-        ensures { (result ≡ to_of self.now.bytes.now t) × (result < 256) }
-    {
-        to_within(self.bytes, self.start, t)
-    }
-
-    pub fn share_within(&self, t: usize) -> usize
-        requires { (t < 256) × (turn_at self.now.bytes.now t + turn_size ≤ length self.now.bytes.now) }
-        ensures { (result ≡ share_of self.now.bytes.now t) × (result < 256) }
-    {
-        share_within(self.bytes, self.start, t)
-    }
-
-    pub fn pull_within(&self, t: usize) -> usize
-        requires { (t < 256) × (turn_at self.now.bytes.now t + turn_size ≤ length self.now.bytes.now) }
-        ensures { (result ≡ pull_of self.now.bytes.now t) × (result < 65536) }
-    {
-        pull_within(self.bytes, self.start, t)
+        octets::u16_at(self.bytes, self.record_at(t) + 5)
     }
 }
 
-// Where the record of turn t stands.
 pub fn turn_at(start: usize, t: usize) -> usize
     requires { (t < 256) × (start ≤ start_bound) }
     ensures { (result ≡ start + turn_size * t) × (result ≤ 102000) }
@@ -80,154 +185,51 @@ pub fn turn_at(start: usize, t: usize) -> usize
     start + limits::TURN_SIZE * t
 }
 
-// The byte at offset k of the record of turn t; and where the turn is there whole, with no test.
-fn turn_byte(s: &[u8], start: usize, t: usize, k: usize) -> usize
-    requires { (t < 256) × (k < 256) × (start ≤ start_bound) × (start ≡ turns_start s.now) }
-    ensures { (result ≡ byte_at s.now (turn_at s.now t + k)) × (result < 256) }
-{
-    octets::byte_at(s, turn_at(start, t) + k)
-}
-
-fn turn_byte_within(s: &[u8], start: usize, t: usize, k: usize) -> usize
-    requires { (t < 256) × (k < turn_size) × (start ≤ start_bound) × (start ≡ turns_start s.now) × (turn_at s.now t + turn_size ≤ length s.now) }
-    ensures { (result ≡ byte_at s.now (turn_at s.now t + k)) × (result < 256) }
-{
-    octets::byte_within(s, turn_at(start, t) + k)
-}
-
 pub fn from_of(s: &[u8], start: usize, t: usize) -> usize
     requires { (t < 256) × (start ≤ start_bound) × (start ≡ turns_start s.now) }
     ensures { (result ≡ from_of s.now t) × (result < 256) }
 {
-    turn_byte(s, start, t, 2)
+    Turns { bytes: s, start }.from_of(t)
 }
 
 pub fn to_of(s: &[u8], start: usize, t: usize) -> usize
     requires { (t < 256) × (start ≤ start_bound) × (start ≡ turns_start s.now) }
     ensures { (result ≡ to_of s.now t) × (result < 256) }
 {
-    turn_byte(s, start, t, 3)
-}
-
-fn share_of(s: &[u8], start: usize, t: usize) -> usize
-    requires { (t < 256) × (start ≤ start_bound) × (start ≡ turns_start s.now) }
-    ensures { (result ≡ share_of s.now t) × (result < 256) }
-{
-    turn_byte(s, start, t, 4)
+    Turns { bytes: s, start }.to_of(t)
 }
 
 pub fn pull_of(s: &[u8], start: usize, t: usize) -> usize
     requires { (t < 256) × (start ≤ start_bound) × (start ≡ turns_start s.now) }
     ensures { (result ≡ pull_of s.now t) × (result < 65536) }
 {
-    octets::u16_at(s, turn_at(start, t) + 5)
+    Turns { bytes: s, start }.pull_of(t)
 }
 
-// The same fields of a turn that is there whole: no test.
 pub fn from_within(s: &[u8], start: usize, t: usize) -> usize
-    requires { (t < 256) × (start ≤ start_bound) × (start ≡ turns_start s.now) × (turn_at s.now t + turn_size ≤ length s.now) }
+    requires { (t < 256) × (start ≤ start_bound) × (start ≡ turns_start s.now) × TurnWhole s.now t }
     ensures { (result ≡ from_of s.now t) × (result < 256) }
 {
-    turn_byte_within(s, start, t, 2)
+    Turns { bytes: s, start }.from_within(t)
 }
 
 pub fn to_within(s: &[u8], start: usize, t: usize) -> usize
-    requires { (t < 256) × (start ≤ start_bound) × (start ≡ turns_start s.now) × (turn_at s.now t + turn_size ≤ length s.now) }
+    requires { (t < 256) × (start ≤ start_bound) × (start ≡ turns_start s.now) × TurnWhole s.now t }
     ensures { (result ≡ to_of s.now t) × (result < 256) }
 {
-    turn_byte_within(s, start, t, 3)
+    Turns { bytes: s, start }.to_within(t)
 }
 
 pub fn share_within(s: &[u8], start: usize, t: usize) -> usize
-    requires { (t < 256) × (start ≤ start_bound) × (start ≡ turns_start s.now) × (turn_at s.now t + turn_size ≤ length s.now) }
+    requires { (t < 256) × (start ≤ start_bound) × (start ≡ turns_start s.now) × TurnWhole s.now t }
     ensures { (result ≡ share_of s.now t) × (result < 256) }
 {
-    turn_byte_within(s, start, t, 4)
+    Turns { bytes: s, start }.share_within(t)
 }
 
 pub fn pull_within(s: &[u8], start: usize, t: usize) -> usize
-    requires { (t < 256) × (start ≤ start_bound) × (start ≡ turns_start s.now) × (turn_at s.now t + turn_size ≤ length s.now) }
+    requires { (t < 256) × (start ≤ start_bound) × (start ≡ turns_start s.now) × TurnWhole s.now t }
     ensures { (result ≡ pull_of s.now t) × (result < 65536) }
 {
-    octets::u16_within(s, turn_at(start, t) + 5)
-}
-
-// The pair of turn t is above that of the turn before it.
-fn turn_ascends(s: &[u8], start: usize, t: usize) -> bool
-    requires { (t < 256) × (start ≤ start_bound) × (start ≡ turns_start s.now) }
-    ensures { result ≡ turn_ascends s.now t }
-{
-    if t == 0 {
-        return true;
-    }
-    let from = from_of(s, start, t - 1);
-    let to = to_of(s, start, t - 1);
-    pairs::pair_below(from, to, from_of(s, start, t), to_of(s, start, t))
-}
-
-// What the shares from the link of turn t total up to it, where `before` is that total up to the turn before.
-// Pairs ascend, so the turns of a link stand together.
-fn share_total(s: &[u8], start: usize, t: usize, before: usize) -> usize
-    requires { (t < 256) × (start ≤ start_bound) × (start ≡ turns_start s.now) × SharesBefore s.now t before }
-    ensures { turn_ascends s.now t ≡ true → result ≡ share_total s.now t }
-{
-    let share = share_of(s, start, t);
-    if t == 0 {
-        return share;
-    }
-    if from_of(s, start, t - 1) == from_of(s, start, t) {
-        return before + share;
-    }
-    share
-}
-
-// The tests of a turn that do not look at other turns.
-fn turn_fits(s: &[u8], start: usize, links: usize, t: usize) -> bool
-    requires { (t < 256) × (start ≤ start_bound) × (start ≡ turns_start s.now) × (links ≡ links_of s.now) }
-    ensures { result ≡ turn_fits s.now t }
-{
-    let from = from_of(s, start, t);
-    let to = to_of(s, start, t);
-    let share = share_of(s, start, t);
-    let pull = pull_of(s, start, t);
-    (from < links)
-        & (to < links)
-        & (links::head_of(s, from) == links::tail_of(s, to))
-        & (1 <= share)
-        & (share <= limits::MAX_SHARE)
-        & (1 <= pull)
-        & (pull <= limits::MAX_PULL)
-}
-
-fn turn_ok(s: &[u8], start: usize, links: usize, t: usize, total: usize) -> bool
-    requires { (t < 256) × (start ≤ start_bound) × (start ≡ turns_start s.now) × (links ≡ links_of s.now)
-        × (turn_ascends s.now t ≡ true → total ≡ share_total s.now t) }
-    ensures { result ≡ turn_ok s.now t }
-{
-    turn_fits(s, start, links, t) & turn_ascends(s, start, t) & (total <= limits::MAX_SHARE)
-}
-
-fn check_turn(s: &[u8], start: usize, links: usize, t: usize, total: usize) -> Report
-    requires { (t < 256) × (start ≤ start_bound) × (start ≡ turns_start s.now) × (links ≡ links_of s.now)
-        × (turn_ascends s.now t ≡ true → total ≡ share_total s.now t) }
-    ensures { result ≡ turn_fault s.now t }
-{
-    let o = turn_at(start, t);
-    let opening = octets::check_opened(s, o, octets::marked_as(s, o, 84, 78), limits::TURN_SIZE);
-    octets::record_result(opening, turn_ok(s, start, links, t, total), 5, o)
-}
-
-pub fn check_turns(s: &[u8], start: usize, links: usize, turns: usize) -> Report
-    requires { (turns < 256) × (start ≤ start_bound) × (start ≡ turns_start s.now) × (links ≡ links_of s.now) }
-    ensures { result ≡ first_bad turns (turn_fault s.now) }
-{
-    let mut total = 0;
-    for t in 0..turns {
-        total = share_total(s, start, t, total);
-        let f = check_turn(s, start, links, t, total);
-        if f.number != 0 {
-            return f;
-        }
-    }
-    octets::accept()
+    Turns { bytes: s, start }.pull_within(t)
 }

@@ -1,16 +1,19 @@
 -- `entry_standing::check_standing` meets its contract.
-use Rattle.octets.proofs.Cases.{cases}
-use Rattle.judging.specs.EntryTests.{standing_fault}
+use mathlib.Core.Path.{◌∙◌}
+use Rattle.entry_standing.proofs.EdgeLimits.{above_safe, other_rank, no_fault}
 use Rattle.entry_standing.proofs.check_standing.Goals as goal
 
 pub returns-then-not-cell : goal.returns-then-not-cell
-unfolding standing_fault
-returns-then-not-cell c = search cases depth 9
+returns-then-not-cell c =
+    let fits = c.cell_fits-cell.ensures in
+    c.refuse_at.ensures ∙ above_safe _ _ _ fits.0 fits.1 c.requires.1 c.if-not-cell.true
 
-pub returns-then-not-rank_fits : goal.returns-then-not-rank_fits
-unfolding standing_fault
-returns-then-not-rank_fits c = search cases depth 9
+pub returns-then-rank-cell : goal.returns-then-rank-cell
+returns-then-rank-cell c =
+    let fits = c.cell_fits-cell.ensures in
+    c.refuse_at-then-rank-cell.ensures ∙ other_rank _ _ _ fits.0 fits.1 c.requires.1 c.if-not-cell.false c.if-rank-cell.true
 
 pub returns : goal.returns
-unfolding standing_fault
-returns c = search cases depth 9
+returns c =
+    let fits = c.cell_fits-cell.ensures in
+    no_fault _ _ _ fits.0 fits.1 c.requires.1 c.if-not-cell.false c.if-rank-cell.false

@@ -2,8 +2,9 @@
 use Rattle.entry_standing.proofs.EdgeLimits.{goals_in_mode, goals_in_links}
 use Rattle.entry_standing.proofs.goal_row.Goals as goal
 
-pub returns-then-at-ne-PLAIN_MODE_SIZE : goal.returns-then-at-ne-PLAIN_MODE_SIZE
-returns-then-at-ne-PLAIN_MODE_SIZE c = goals_in_mode _ _ c.requires.0 c.if-at-ne-PLAIN_MODE_SIZE.true c.mode_of-mode.ensures.0 c.mode_at-record.ensures.0 c.mode_at-record.ensures.1
+pub returns-then-certificate-ne-PLAIN_MODE_SIZE : goal.returns-then-certificate-ne-PLAIN_MODE_SIZE
+returns-then-certificate-ne-PLAIN_MODE_SIZE c =
+    goals_in_mode c.args.certificate.now _ c.if-certificate-ne-PLAIN_MODE_SIZE.true c.mode_of-mode.ensures.0 (rw c.modes.ensures at c.record_at-record.ensures.0) c.record_at-record.ensures.1
 
 pub returns : goal.returns
-returns c = goals_in_links _ _ c.requires.0 c.if-at-ne-PLAIN_MODE_SIZE.false c.size_for.ensures.0 c.size_for.ensures.2
+returns c = goals_in_links c.args.certificate.now _ c.if-certificate-ne-PLAIN_MODE_SIZE.false c.size_for.ensures.0 c.size_for.ensures.2

@@ -1,7 +1,6 @@
 -- `header_record::has_memory_within` meets its contract.
-use Rattle.certificate.specs.Layout.{remembers}
+use Rattle.header_record.proofs.KindBytes.{kind_with_memory}
 use Rattle.header_record.proofs.has_memory_within.Goals as goal
 
 pub returns : goal.returns
-unfolding remembers
-returns c = rw c.byte_within-kind.ensures.0
+returns c = rw (c.has_memory.ensures, c.of_within.ensures) (kind_with_memory c.args.s.now)

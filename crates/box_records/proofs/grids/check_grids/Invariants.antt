@@ -1,5 +1,4 @@
 -- `box_records::grids::check_grids` meets its contract.
-use Prim.Native.Nat.{◌-◌, ◌≤◌}
 use mathlib.Core.Path.{◌≡◌}
 use Rattle.certificate.specs.Checks.{first_from}
 use Rattle.certificate.specs.Records.{grid_fault}
@@ -7,7 +6,4 @@ use Rattle.box_records.specs.GridRecords.{GridsLaid}
 use Rattle.box_records.proofs.grids.check_grids.Given as goal
 
 abbrev pub invariant-loop-l : goal.invariant-loop-l
-invariant-loop-l l = (first_from l.links (grid_fault l.s) l.l ≡ first_from l.links (grid_fault l.s) 0) × GridsLaid l.s l.l l.places l.at l.product × (l.l ≤ l.links)
-
-abbrev pub decreases-loop-l : goal.decreases-loop-l
-decreases-loop-l l = l.links - l.l
+invariant-loop-l l = (first_from l.links (grid_fault l.s) l.l ≡ first_from l.links (grid_fault l.s) 0) × GridsLaid l.s l.l l.places l.at l.product

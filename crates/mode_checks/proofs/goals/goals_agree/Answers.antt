@@ -1,19 +1,12 @@
-use mathlib.Core.Path.{ap}
-use mathlib.Core.Bool.{not}
-use mathlib.Core.Path.{refl}
-use Rattle.certificate.specs.Records.{goals_agree}
-use Rattle.mode_checks.proofs.ModeTests.{agree_from, agree_on, agree_stop, agree_end}
+-- `mode_checks::goals::goals_agree` meets its contract.
+use Rattle.std.proofs.Common.{rules, tests, ◌||◌, not, eqb}
+use Rattle.certificate.specs.Layout.{goal_number_of}
+use Rattle.certificate.specs.Records.{same_goals, goals_agree}
+use Rattle.mode_records.proofs.Ranges.{all_below}
 use Rattle.mode_checks.proofs.goals.goals_agree.Goals as goal
 
-pub loop-k-init : goal.loop-k-init
-unfolding agree_from goals_agree
-loop-k-init c = refl
-
-pub returns-then-not-agrees_with : goal.returns-then-not-agrees_with
-returns-then-not-agrees_with c = agree_stop _ _ _ c.agrees_with.ensures c.loop-k-test.true (ap not c.if-not-agrees_with.true) c.loop-k.invariant
-
-pub loop-k-preserved : goal.loop-k-preserved
-loop-k-preserved c = agree_on _ _ _ c.agrees_with.ensures c.loop-k-test.true (ap not c.if-not-agrees_with.false) c.loop-k.invariant
-
 pub returns : goal.returns
-returns c = agree_end _ _ _ c.loop-k-test.false c.loop-k.invariant
+unfolding goals_agree
+returns c =
+    let s = c.args.modes.now.bytes.now in
+    all_below (λ k. not (eqb (goal_number_of s k) (goal_number_of s c.args.m)) || same_goals s k c.args.m) c.args.m (cc) (λ x b q k. search (rules, tests)) c.all.ensures.ran

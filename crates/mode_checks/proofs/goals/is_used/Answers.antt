@@ -1,14 +1,12 @@
-use native.Mathlib.Omega.{arith}
-use Rattle.mode_checks.proofs.ModeTests.{used_none, used_more, used_all}
+-- `mode_checks::goals::is_used` meets its contract.
+use Rattle.std.proofs.Common.{rules, tests, eqb}
+use Rattle.certificate.specs.Layout.{goal_number_of, modes_of}
+use Rattle.certificate.specs.Records.{is_used}
+use Rattle.mode_records.proofs.Ranges.{any_below}
 use Rattle.mode_checks.proofs.goals.is_used.Goals as goal
 
-pub loop-m-init : goal.loop-m-init
-loop-m-init c = (used_none _ _, omega arith)
-
-pub loop-m-preserved : goal.loop-m-preserved
-loop-m-preserved c =
-    (used_more _ _ _ c.loop-m.invariant.0 c.goal_number.ensures.0, omega (arith, c.loop-m-test.true))
-
 pub returns : goal.returns
+unfolding is_used
 returns c =
-    used_all _ _ _ c.loop-m.invariant.0 (omega (arith, c.loop-m.invariant.1, c.loop-m-test.false, c.modes_of-modes.ensures.0))
+    let s = c.args.modes.now.bytes.now in
+    any_below (λ m. eqb (goal_number_of s m) c.args.n) (modes_of s) (cc) (λ x b q k. search (rules, tests)) c.any.ensures.ran

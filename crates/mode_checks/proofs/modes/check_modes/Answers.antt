@@ -1,23 +1,21 @@
-use borrow.Author.Rules.{rules}
-use Rattle.octets.proofs.Cases.{go_on, stop, end, by_no, by_yes}
-use Rattle.mode_checks.proofs.ModeTests.{no_records, all_records}
+use Rattle.std.proofs.Common.{arith, refl}
+use Rattle.certificate.specs.Reading.{modes_fault}
+use Rattle.octets.proofs.Outcomes.{go_on, stop, end}
+use Rattle.mode_checks.proofs.ModeTests.{recorded}
 use Rattle.mode_checks.proofs.modes.check_modes.Goals as goal
 
-pub returns-then-not-has_memory : goal.returns-then-not-has_memory
-returns-then-not-has_memory c = no_records _ (by_no _ _ c.has_memory.ensures c.if-not-has_memory.true) c.accept.ensures
-
 pub loop-m-init : goal.loop-m-init
-loop-m-init c = all_records _ (by_yes _ _ c.has_memory.ensures c.if-not-has_memory.false) c.modes_of-modes.ensures.0
+unfolding modes_fault
+loop-m-init c = refl
 
-pub check_mode-f-requires : goal.check_mode-f-requires
-check_mode-f-requires c =
-    (search rules, c.place_of-place.ensures, by_yes _ _ c.has_memory.ensures c.if-not-has_memory.false)
+pub check_mode-requires : goal.check_mode-requires
+check_mode-requires c = (omega (arith, c.loop-m-test.true, c.records-m-end.ensures.2), recorded _ c.loop-m.m (omega (arith, c.loop-m-test.true, c.records-m-end.ensures.0)))
 
-pub returns-then-f-ne0 : goal.returns-then-f-ne0
-returns-then-f-ne0 c = search stop
+pub returns-in_err-check_mode : goal.returns-in_err-check_mode
+returns-in_err-check_mode c = stop _ _ c.from_residual.ensures.1 _ _ _ _ (omega (arith, c.loop-m-test.true, c.records-m-end.ensures.0)) c.in_err-check_mode.ensures c.loop-m.invariant
 
 pub loop-m-preserved : goal.loop-m-preserved
-loop-m-preserved c = search go_on
+loop-m-preserved c = go_on _ _ _ _ (omega (arith, c.loop-m-test.true, c.records-m-end.ensures.0)) c.in_ok-check_mode.ensures c.loop-m.invariant
 
 pub returns : goal.returns
-returns c = search end
+returns c = end _ _ _ _ (omega (arith, c.loop-m-test.false, c.records-m-end.ensures.0)) c.loop-m.invariant

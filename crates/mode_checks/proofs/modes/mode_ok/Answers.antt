@@ -14,7 +14,7 @@ returns-then-not-takes_turns c =
     one_goal _ _ c.shown_before.ensures.0 c.signals_of.ensures.0 c.if-shown_before-signals_of.false c.takes_turns.ensures (ap not c.if-not-takes_turns.true)
 
 pub goals_ok-requires : goal.goals_ok-requires
-goals_ok-requires c = (search rules, search rules, by_yes _ _ c.takes_turns.ensures c.if-not-takes_turns.false)
+goals_ok-requires c = (search rules, by_yes _ _ c.takes_turns.ensures c.if-not-takes_turns.false)
 
 pub returns : goal.returns
 returns c =

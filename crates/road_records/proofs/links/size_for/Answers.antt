@@ -9,6 +9,6 @@ pub returns-then-memory : goal.returns-then-memory
 unfolding link_size
 returns-then-memory c = (search (pick_yes, by_yes), omega arith, omega arith)
 
-pub returns : goal.returns
+pub returns-else-memory : goal.returns-else-memory
 unfolding link_size
-returns c = (search (pick_no, by_no), omega arith, omega arith)
+returns-else-memory c = (search (pick_no, by_no), omega arith, omega arith)

@@ -6,5 +6,5 @@ use Rattle.road_records.proofs.links.start_flow_of.Goals as goal
 pub returns-then-has_memory : goal.returns-then-has_memory
 returns-then-has_memory c = (search start_held, search rules)
 
-pub returns : goal.returns
-returns c = (search start_flow, search rules)
+pub returns-else-has_memory : goal.returns-else-has_memory
+returns-else-has_memory c = (search start_flow, search rules)

@@ -13,5 +13,5 @@ u16_within-requires c = (search rules, search start_inside)
 pub returns-then-has_memory_within : goal.returns-then-has_memory_within
 returns-then-has_memory_within c = (search start_held, search rules)
 
-pub returns : goal.returns
-returns c = (search start_flow, search rules)
+pub returns-else-has_memory_within : goal.returns-else-has_memory_within
+returns-else-has_memory_within c = (search start_flow, search rules)

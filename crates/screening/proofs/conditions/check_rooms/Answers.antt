@@ -1,22 +1,19 @@
-use native.Mathlib.Omega.{arith}
-use borrow.Author.Rules.{rules}
-use Rattle.octets.proofs.Cases.{go_on, stop, end}
-use Rattle.network.specs.Conditions.{rooms_fault}
-use Rattle.screening.proofs.Bounds.{turns_most, to_room}
+use Rattle.std.proofs.Common.{arith, refl}
+use Rattle.octets.proofs.Outcomes.{go_on, stop, end}
+use Rattle.network.specs.Conditions.{room_fault, rooms_fault}
 use Rattle.screening.proofs.conditions.check_rooms.Goals as goal
 
 pub loop-t-init : goal.loop-t-init
 unfolding rooms_fault
-loop-t-init c = cc
+loop-t-init c = refl
 
-pub check_room-f-requires : goal.check_room-f-requires
-check_room-f-requires c = (omega (arith, turns_most c.requires), search rules, search rules, to_room c.requires c.loop-t.t c.loop-t-test.true)
-
-pub returns-then-f-ne0 : goal.returns-then-f-ne0
-returns-then-f-ne0 c = search stop
+pub returns-in_err-require : goal.returns-in_err-require
+unfolding room_fault
+returns-in_err-require c = stop _ _ c.from_residual.ensures.1 _ _ _ _ (omega (arith, c.args.certificate.now.laid.turns_are)) (rw (← c.room_ok.ensures) c.in_err-require.ensures) c.loop-t.invariant
 
 pub loop-t-preserved : goal.loop-t-preserved
-loop-t-preserved c = search go_on
+unfolding room_fault
+loop-t-preserved c = go_on _ _ _ _ (omega (arith, c.args.certificate.now.laid.turns_are)) (rw (← c.room_ok.ensures) c.in_ok-require.ensures) c.loop-t.invariant
 
 pub returns : goal.returns
-returns c = search end
+returns c = end _ _ _ _ (omega (arith, c.args.certificate.now.laid.turns_are)) c.loop-t.invariant

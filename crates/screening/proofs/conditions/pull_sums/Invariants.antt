@@ -1,5 +1,5 @@
 -- `screening::conditions::pull_sums` meets its contract.
-use Prim.Native.Nat.{◌*◌, ◌-◌, ◌≤◌}
+use Rattle.std.proofs.Common.{◌*◌}
 use Rattle.certificate.specs.Octets.{bit_of}
 use Rattle.certificate.specs.Loops.{pick}
 use Rattle.certificate.specs.Layout.{links_of, from_of, to_of, share_of, pull_of}
@@ -8,7 +8,5 @@ use Rattle.screening.proofs.conditions.pull_sums.Given as goal
 
 abbrev pub invariant-loop-t : goal.invariant-loop-t
 invariant-loop-t l =
-    (l.t ≤ l.turns) × Summed (links_of l.s) (to_of l.s) (λ u. pick (bit_of l.byte (from_of l.s u)) (share_of l.s u * pull_of l.s u) 0) (λ _. 0) (λ _. 0) 0 16711425 l.t l.sums
-
-abbrev pub decreases-loop-t : goal.decreases-loop-t
-decreases-loop-t l = l.turns - l.t
+    let s = l.certificate.bytes.now in
+    Summed (links_of s) (to_of s) (λ u. pick (bit_of l.byte (from_of s u)) (share_of s u * pull_of s u) 0) (λ _. 0) (λ _. 0) 0 (100 * 10000) l.t l.sums

@@ -1,4 +1,4 @@
--- `mode_records::goals::goal_for` meets its contract.
+-- `mode_records::modes::Modes::goal_for` meets its contract.
 use borrow.Author.Rules.{rules}
 use Rattle.mode_records.proofs.ModeFields.{goal_held}
 use Rattle.mode_records.proofs.modes.Modes.goal_for.Goals as goal

@@ -1,0 +1,2 @@
+-- The kinds of certificates, as the code has them.
+pub mod Kinds

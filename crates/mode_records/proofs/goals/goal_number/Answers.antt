@@ -1,7 +1,0 @@
--- `mode_records::goals::goal_number` meets its contract.
-use borrow.Author.Rules.{rules}
-use Rattle.mode_records.proofs.ModeFields.{number_here}
-use Rattle.mode_records.proofs.goals.goal_number.Goals as goal
-
-pub returns : goal.returns
-returns c = (search number_here, search rules)

@@ -1,7 +1,0 @@
--- `mode_records::modes::shown_before` meets its contract.
-use borrow.Author.Rules.{rules}
-use Rattle.mode_records.proofs.ModeFields.{shown_here}
-use Rattle.mode_records.proofs.modes.shown_before.Goals as goal
-
-pub returns : goal.returns
-returns c = (search shown_here, search rules)
