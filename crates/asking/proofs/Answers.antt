@@ -23,7 +23,7 @@ use Rattle.asking.specs.declared.Found.{Found}
 use Rattle.asking.specs.FoundEntries.{Answer, stored_fault, held_fault, HeldAs, showing, answer_of, found_at, not_found, cell_found}
 
 -- what a refusal that is left by `?` answers
-left_answer : (mode : ℕ) (r : Result Found Refused) (e : Refused) → IsErrAnd r (λ x. x ≡ e) → {f : Report} → report_of e ≡ f → answer_of mode r ≡ not_found f mode
+pub left_answer : (mode : ℕ) (r : Result Found Refused) (e : Refused) → IsErrAnd r (λ x. x ≡ e) → {f : Report} → report_of e ≡ f → answer_of mode r ≡ not_found f mode
 left_answer mode r e h p = let q = err_from_is_err_and r h in rw (q.1, q.2, p)
 
 -- an answer behind a test: the test refuses, or it passes and what follows answers

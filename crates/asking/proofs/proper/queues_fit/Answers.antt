@@ -2,7 +2,7 @@
 use Rattle.std.proofs.Common.{rules, tests, ◌*◌, leb, length}
 use Rattle.certificate.specs.Layout.{cap_of}
 use Rattle.judging.specs.Asking.{queue_at}
-use Rattle.mode_records.proofs.Ranges.{all_below}
+use Rattle.octets.proofs.Ranges.{all_below}
 use Rattle.asking.proofs.proper.queues_fit.Goals as goal
 
 pub returns : goal.returns
