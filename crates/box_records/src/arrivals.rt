@@ -98,11 +98,3 @@ impl<'a> Arrivals<'a> {
         Ok(())
     }
 }
-
-// for the crates above, until they read by a certificate
-pub fn arrival_at(start: usize, links: usize, b: usize) -> usize
-    requires { (b < 256) × (links ≤ max_links) × (start ≤ start_bound) }
-    ensures { (result ≡ start + arrival_size links * b) × (result ≤ 120000) }
-{
-    start + (2 + 4 * links) * b
-}

@@ -6,6 +6,7 @@ use mathlib.Core.Path.{◌≡◌, refl, sym, ap, ◌∙◌}
 use native.Mathlib.Nat.{mul-one}
 use native.Mathlib.Omega.{arith}
 use mir.Val.{bool_byte}
+use Rattle.octets.proofs.Picking.{byte_picks}
 use lib.ListN.{length, get_or, take}
 use Rattle.std.proofs.lemmas.List.{get_or-take, length-take-le}
 use Rattle.certificate.specs.declared.Report.{Report}
@@ -60,13 +61,9 @@ sum_begins f = refl
 pub sum_more : (n r one : ℕ) (f : ℕ → ℕ) → r ≡ sum_to n f → one ≡ f n → r + one ≡ sum_to (n + 1) f
 sum_more n r one f e is = rw (e, is) (sym (sum_next n f))
 
-byte_is : (q : Bool) → bool_byte q ≡ pick q 1 0
-byte_is true = refl
-byte_is false = refl
-
 -- one more index of which the test says q
 pub many_more : (n r one : ℕ) (q : Bool) (p : ℕ → Bool) → r ≡ how_many n p → q ≡ p n → one ≡ bool_byte q → r + one ≡ how_many (n + 1) p
-many_more n r one q p e is w = sum_more n r one (λ k. pick (p k) 1 0) e (w ∙ byte_is q ∙ rw is)
+many_more n r one q p e is w = sum_more n r one (λ k. pick (p k) 1 0) e (w ∙ byte_picks q ∙ rw is)
 
 -- the cells of runs that pass, counted run by run: not more than there are, and where it is all of them, each does
 module _ (s : List ℕ) (e : ℕ) (runs : List ℕ) (size : ℕ) where

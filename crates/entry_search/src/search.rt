@@ -52,7 +52,7 @@ fn passes(entry: &Entry<'_>, d: usize) -> bool
 }
 
 // How many of the cells first .. first + size - 1 pass. This loop and the next are not left early, so that the compiler may look several up
-// at once.
+// at once. They stay loops: a filter and its count take three times as many instructions.
 fn run_passed(entry: &Entry<'_>, first: usize, size: usize) -> u32
     requires { first + size ≤ cells_of (bytes_of entry.now.tables.now) }
     ensures { result ≡ run_passing (bytes_of entry.now.tables.now) entry.now.number first size }

@@ -92,22 +92,9 @@ fn send(
     };
     supply::supplies(certificate, sender.from, sender.end, queues, supplies);
     let BySide { lower, upper } = supplies;
-    pass_on(
-        certificate,
-        sender,
-        queues.lower[l],
-        lower,
-        upper,
-        &mut ends.low,
-    );
-    pass_on(
-        certificate,
-        sender,
-        queues.upper[l],
-        upper,
-        lower,
-        &mut ends.high,
-    );
+    let Ends { low, high } = ends;
+    pass_on(certificate, sender, queues.lower[l], lower, upper, low);
+    pass_on(certificate, sender, queues.upper[l], upper, lower, high);
 }
 
 // The ends of the image of a closed box, before arrivals: `ends` receives them.

@@ -1,13 +1,12 @@
 // The lines of a listing, each as its words and numbers.
 ghost use Rattle.std.specs.Prelude.{◌≡◌, ◌≤◌, length};
-ghost use Rattle.certificate.specs.Layout.{max_entries, entries_start};
+ghost use Rattle.certificate.specs.Layout.{max_entries};
 ghost use Rattle.listing_text.specs.Lines.{counts_line, entry_line, accepted_line, refused_line};
 ghost use Rattle.listing_lines.specs.Fields.{line_of};
-ghost use Rattle.octets.specs.Bounds.{start_bound};
 
 use crate::line::Field;
 use certificate::Report;
-use entry_records::entries;
+use entry_records::entries::Entries;
 
 pub fn counts_line(s: &[u8]) -> [Field; 6]
     ensures { (line_of result ≡ counts_line s.now) × (length (line_of result) ≤ 126) }
@@ -22,12 +21,11 @@ pub fn counts_line(s: &[u8]) -> [Field; 6]
     ]
 }
 
-// `start` is where the records of the entries begin.
-pub fn entry_line(s: &[u8], start: usize, e: usize) -> [Field; 5]
-    requires { (e ≤ max_entries) × (start ≤ start_bound) × (start ≡ entries_start s.now) }
-    ensures { (line_of result ≡ entry_line s.now e) × (length (line_of result) ≤ 55) }
+pub fn entry_line(entries: &Entries<'_>, e: usize) -> [Field; 5]
+    requires { e ≤ max_entries }
+    ensures { (line_of result ≡ entry_line entries.now.bytes.now e) × (length (line_of result) ≤ 55) }
 {
-    let entry = entries::bench_entry(s, start, e);
+    let entry = entries.bench_entry(e);
     let shown = entry.shown;
     [
         Field(b"", shown.cell as u32),

@@ -8,12 +8,6 @@ use Rattle.certificate.specs.Loops.{greatest_to}
 use Rattle.certificate.specs.Octets.{byte_at, u16_at}
 use Rattle.certificate.specs.Layout.{modes_of, remembers, takes_turns, mode_at, shown_before, goal_number_of, goal_for, greatest_goal}
 use Rattle.certificate.proofs.KindLaws.{one_goal_layout, none_greater}
-use Rattle.mode_records.specs.declared.modes.Place.{Place}
-use Rattle.mode_records.specs.Placed.{Placed}
-
-module _ (s : List ℕ) {place : Place} (P : Placed s place) (m : ℕ) {o : ℕ} (here : o ≡ place.start + place.size * m) where
-  pub mode_here : o ≡ mode_at s m
-  mode_here = here ∙ rw (P.start_is, P.size_is)
 
 module _ (s : List ℕ) (m : ℕ) {o : ℕ} (here : o ≡ mode_at s m) where
   pub shown_held : {r : ℕ} → remembers s ≡ true → r ≡ byte_at s (o + 2) → r ≡ shown_before s m

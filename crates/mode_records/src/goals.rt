@@ -1,7 +1,6 @@
 // The goals of the modes of an H3 certificate: the fields of MD behind the signal.
 ghost use Rattle.std.specs.Prelude.{true, ◌≡◌, ◌<◌};
 ghost use Rattle.certificate.specs.Layout.{takes_turns, goal_number_of, goal_for, greatest_goal};
-ghost use Rattle.mode_records.specs.Placed.{Placed};
 
 use crate::modes;
 
@@ -41,17 +40,4 @@ impl modes::Modes<'_> {
         }
         0
     }
-}
-
-// for the crates above, until they read by a certificate
-pub fn greatest_goal(s: &[u8], place: modes::Place) -> usize
-    requires { Placed s.now place }
-    ensures { (result ≡ greatest_goal s.now) × (result < 256) }
-{
-    modes::Modes {
-        bytes: s,
-        start: place.start,
-        size: place.size,
-    }
-    .greatest_goal()
 }

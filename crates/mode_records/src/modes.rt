@@ -1,7 +1,7 @@
 // MD: one record a mode of an H2 or H3 certificate, the signal shown before and in H3 its goals; HD has none.
 ghost use Rattle.std.specs.Prelude.{true, ◌≡◌, ◌+◌, ◌*◌, ◌<◌, ◌≤◌};
 ghost use Rattle.certificate.specs.Layout.{remembers, modes_of, mode_records_of, modes_start, mode_size, mode_at, shown_before};
-ghost use Rattle.mode_records.specs.Placed.{Placed, size_bound};
+ghost use Rattle.mode_records.specs.Placed.{size_bound};
 ghost use Rattle.octets.specs.Bounds.{start_bound};
 
 use certificate::limits;
@@ -66,50 +66,4 @@ fn size_of(s: &[u8]) -> usize
         return 4 + 2 * header_record::links_of(s);
     }
     limits::PLAIN_MODE_SIZE
-}
-
-// for the crates above, until they read by a certificate
-#[derive(Clone, Copy)]
-pub struct Place {
-    pub start: usize,
-    pub size: usize,
-}
-
-pub fn place_of(s: &[u8], start: usize) -> Place
-    requires { (start ≤ start_bound) × (start ≡ modes_start s.now) }
-    ensures { Placed s.now result }
-{
-    Place {
-        start,
-        size: Modes::of(s, start).size,
-    }
-}
-
-pub fn records_of(s: &[u8], modes: usize) -> usize
-    requires { modes ≡ modes_of s.now }
-    ensures { (result ≡ mode_records_of s.now) × (result ≤ modes) }
-{
-    if header_record::has_memory(s) {
-        return modes;
-    }
-    0
-}
-
-pub fn mode_at(place: Place, m: usize) -> usize
-    requires { (m < 256) × (place.start ≤ start_bound) × (place.size ≤ size_bound) }
-    ensures { (result ≡ place.start + place.size * m) × (result ≤ 300000) }
-{
-    place.start + place.size * m
-}
-
-pub fn shown_before(s: &[u8], place: Place, m: usize) -> usize
-    requires { (m < 256) × Placed s.now place × (remembers s.now ≡ true) }
-    ensures { (result ≡ shown_before s.now m) × (result < 256) }
-{
-    Modes {
-        bytes: s,
-        start: place.start,
-        size: place.size,
-    }
-    .shown_before(m)
 }

@@ -2,17 +2,16 @@
 use Prim.Native.Nat.{ℕ, ◌+◌, ◌≤◌, ◌<◌}
 use mathlib.Core.Bool.{Bool, true, false, not}
 use mathlib.Core.List.{List}
-use mathlib.Core.Path.{◌≡◌, refl, sym, ap, ◌∙◌}
+use mathlib.Core.Path.{◌≡◌, sym, ◌∙◌}
 use mathlib.Core.Logic.{⊎_elim}
-use borrow.Author.Tests.{lt-ltb, le-ltb, le-leb, lt-leb, eq-eqb, ne_eqb, eqb-false, not-true, not-false}
-use lib.Dec.{eqb}
+use borrow.Author.Tests.{le-leb, not-true, not-false}
 use lib.ListN.{length}
 use Rattle.certificate.specs.declared.Report.{Report}
 use Rattle.certificate.specs.Loops.{every_from}
-use Rattle.certificate.specs.Checks.{refusal, fine, need, or_else, first_from, opened}
+use Rattle.certificate.specs.Checks.{or_else, opened}
 use Rattle.certificate.proofs.Says.{opened_says}
 use Rattle.certificate.proofs.Loops.{every_turn, every_end}
-use Rattle.certificate.proofs.Tests.{need_pass, need_fail, or_next, or_stop, passes, first_turn, first_end}
+use Rattle.certificate.proofs.Tests.{or_next, or_stop, passes}
 
 -- a test's outcome that has a name, r
 pub by_yes : (r b : Bool) → r ≡ b → r ≡ true → b ≡ true
@@ -28,38 +27,9 @@ not_yes r b p q = sym p ∙ not-true r q
 pub not_no : (r b : Bool) → r ≡ b → not r ≡ false → b ≡ true
 not_no r b p q = sym p ∙ not-false r q
 
--- a refusal that a call made, and what follows a test that passes
-pub pass : (b : Bool) (bad next r : Report) → b ≡ true → r ≡ next → r ≡ need b bad next
-pass b bad next r e p = p ∙ sym (need_pass b bad next e)
-
-pub fail : (b : Bool) (bad next r : Report) → b ≡ false → r ≡ bad → r ≡ need b bad next
-fail b bad next r e p = p ∙ sym (need_fail b bad next e)
-
-pub first : (f g h : Report) → f ≡ g → (f.number ≡ 0 → ⊥) → f ≡ or_else g h
-first f g h e n = e ∙ sym (or_stop g h (λ z. n (rw e z)))
-
-pub second : (f g h r : Report) → f ≡ g → f.number ≡ 0 → r ≡ h → r ≡ or_else g h
-second f g h r e n p = p ∙ sym (or_next g h (rw (← e) n))
-
--- a refusal that a call made is none that passes
-pub refused : {r : Report} {n o : ℕ} → r ≡ refusal n o → eqb n 0 ≡ false → r.number ≡ 0 → ⊥
-refused {r} {n} {o} e z q = eqb-false n 0 z (sym (ap (λ (x : Report). x.number) e) ∙ q)
-
 -- a record whose opening passes is there whole
 pub opened-whole : (s : List ℕ) (o : ℕ) (mark : Bool) (size : ℕ) {f : Report} → 2 ≤ size → f ≡ opened s o mark size → f.number ≡ 0 → o + size ≤ length s
 opened-whole s o mark size two e z = ((opened_says s o mark size (le-leb 2 size two)).0 (rw (← e) z)).0
-
-pub ruleset cases = (lt-ltb, le-ltb, le-leb, lt-leb, eq-eqb, ne_eqb, by_yes, by_no, not_yes, not_no, pass, fail, first, second)
-
--- a loop of tests: go on, stop, end
-pub go_on : (n i : ℕ) (f : ℕ → Report) (r t : Report) → i < n → r ≡ f i → r.number ≡ 0 → first_from n f i ≡ t → first_from n f (i + 1) ≡ t
-go_on n i f r t h e z p = second r (f i) _ _ e z refl ∙ sym (first_turn n i f h) ∙ p
-
-pub stop : (n i : ℕ) (f : ℕ → Report) (r t : Report) → i < n → r ≡ f i → (r.number ≡ 0 → ⊥) → first_from n f i ≡ t → r ≡ t
-stop n i f r t h e z p = first r (f i) _ e z ∙ sym (first_turn n i f h) ∙ p
-
-pub end : (n i : ℕ) (f : ℕ → Report) (r t : Report) → n ≤ i → r ≡ fine → first_from n f i ≡ t → r ≡ t
-end n i f r t h e p = e ∙ sym (first_end n i f h) ∙ p
 
 -- a loop of tests that asks whether all pass: go on, stop, end
 pub all_on : (n i : ℕ) (p : ℕ → Bool) (v t : Bool) → i < n → v ≡ p i → v ≡ true → every_from n p i ≡ t → every_from n p (i + 1) ≡ t

@@ -1,14 +1,12 @@
-// Bytes at an offset, and the opening of a record: mark present, mark right, record whole.
+// Bytes and marks at an offset, the report of success, and refusals.
 #![tactic(auto)]
 
 ghost use Rattle.std.specs.Prelude.{◌≡◌, ◌+◌, ◌<◌, ◌≤◌, length};
 ghost use Rattle.certificate.specs.Octets.{byte_at, u16_at};
-ghost use Rattle.certificate.specs.Checks.{report_with, refusal, fine, need, or_else, marked, opened};
+ghost use Rattle.certificate.specs.Checks.{report_with, fine, marked};
 ghost use Rattle.octets.specs.Bounds.{offset_bound};
 
 pub mod filling;
-pub mod numbers;
-
 pub mod refusals;
 
 use certificate::Report;
@@ -17,11 +15,7 @@ use certificate::Report;
 pub fn byte_at(s: &[u8], at: usize) -> usize
     ensures { (result ≡ byte_at s.now at) × (result < 256) }
 {
-    if at < s.len() {
-        usize::from(s[at])
-    } else {
-        0
-    }
+    if at < s.len() { usize::from(s[at]) } else { 0 }
 }
 
 // The two-byte number at an offset, high byte first.
@@ -47,40 +41,24 @@ pub fn u16_within(s: &[u8], at: usize) -> usize
     byte_within(s, at) * 256 + byte_within(s, at + 1)
 }
 
-// A result: number, places A and B, count.
-pub fn report(number: u8, a: usize, b: usize, count: u32) -> Report
-    requires { (a ≤ offset_bound) × (b ≤ offset_bound) }
-    ensures { result ≡ report_with number a b count }
-{
-    Report {
-        number,
-        a: a as u32,
-        b: b as u32,
-        count,
-    }
-}
-
-pub fn accept() -> Report
-    ensures { result ≡ fine }
+// The report of success, with place A.
+pub fn success(a: usize) -> Report
+    requires { a ≤ offset_bound }
+    ensures { result ≡ report_with 0 a 0 0 }
 {
     Report {
         number: 0,
-        a: 0,
+        a: a as u32,
         b: 0,
         count: 0,
     }
 }
 
-pub fn refuse(number: u8, a: usize) -> Report
-    requires { a ≤ offset_bound }
-    ensures { result ≡ refusal number a }
+// The same with no place.
+pub fn accept() -> Report
+    ensures { result ≡ fine }
 {
-    Report {
-        number,
-        a: a as u32,
-        b: 0,
-        count: 0,
-    }
+    success(0)
 }
 
 // The two-byte mark at o, which is known to lie within, is m and k.
@@ -100,45 +78,4 @@ pub fn marked_as(s: &[u8], o: usize, m: usize, k: usize) -> bool
         return false;
     }
     marked_within(s, o, m, k)
-}
-
-// The record at o: its mark present (1), right (2), which `mark` says, and all of its size there (1).
-pub fn check_opened(s: &[u8], o: usize, mark: bool, size: usize) -> Report
-    requires { (o ≤ offset_bound) × (size ≤ 1000) }
-    ensures { result ≡ opened s.now o mark size }
-{
-    if s.len() < o + 2 {
-        return refuse(1, o);
-    }
-    if !mark {
-        return refuse(2, o);
-    }
-    if s.len() < o + size {
-        return refuse(1, o);
-    }
-    accept()
-}
-
-// The first result where it refuses, else the second.
-pub fn or_else(first: Report, second: Report) -> Report
-    ensures { result ≡ or_else first second }
-{
-    if first.number != 0 {
-        return first;
-    }
-    second
-}
-
-// A record's result: its opening where that refuses, else the refusal of that number where its fields are not as they must be.
-pub fn record_result(opening: Report, ok: bool, number: u8, o: usize) -> Report
-    requires { o ≤ offset_bound }
-    ensures { result ≡ or_else opening (need ok (refusal number o) fine) }
-{
-    if opening.number != 0 {
-        return opening;
-    }
-    if !ok {
-        return refuse(number, o);
-    }
-    accept()
 }

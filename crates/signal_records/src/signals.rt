@@ -73,18 +73,3 @@ fn power(n: usize) -> usize
 {
     1 << n
 }
-
-// for the crates above, until they read by a certificate
-pub fn signal_at(start: usize, g: usize) -> usize
-    requires { (g < 256) × (start ≤ start_bound) }
-    ensures { (result ≡ start + signal_size * g) × (result ≤ 101000) }
-{
-    start + limits::SIGNAL_SIZE * g
-}
-
-pub fn green_byte_of(s: &[u8], start: usize, g: usize) -> usize
-    requires { (g < 256) × (start ≤ start_bound) × (start ≡ signals_start s.now) }
-    ensures { (result ≡ green_byte_of s.now g) × (result < 256) }
-{
-    Signals { bytes: s, start }.green_byte_of(g)
-}

@@ -2,6 +2,7 @@
 #![tactic(auto)]
 
 ghost use Rattle.std.specs.Prelude.{◌≡◌, ◌+◌, ◌*◌, ◌<◌, ◌≤◌, IfOk};
+ghost use Rattle.certificate.specs.Checks.{report_with};
 ghost use Rattle.certificate.specs.Layout.{max_boxes, max_modes, max_cells, entries_of, boxes_of, cells_of};
 ghost use Rattle.network.specs.Conditions.{screening_of};
 ghost use Rattle.rank_tables.specs.Index.{RanksOf};
@@ -13,7 +14,7 @@ ghost use Rattle.entry_setup.specs.Bytes.{bytes_of};
 ghost use Rattle.verdict.specs.Entries.{entry_alone, JudgedAs, verdict_told, overflows_in, judged_as};
 
 use cell_tables::{digits, tables as cell_tables_of};
-use certificate::limits;
+use certificate::{Report, limits};
 use entry_search::search::{self, Searched};
 use entry_setup::{Entry, Tables, amounts, entry};
 use entry_standing::Standing;
@@ -28,6 +29,20 @@ use supply::QueueBox;
 pub struct Accepted {
     pub count: u32,
     pub overflows: u32,
+}
+
+// The report of an acceptance.
+impl From<Accepted> for Report {
+    ghost from_gives = { λ a r. r ≡ report_with 0 0 0 a.count };
+
+    fn from(accepted: Accepted) -> Report {
+        Report {
+            number: 0,
+            a: 0,
+            b: 0,
+            count: accepted.count,
+        }
+    }
 }
 
 // The verdict with the certificate that is accepted.

@@ -1,9 +1,10 @@
 -- `verdict::judge_entries` meets its contract.
-use Rattle.std.proofs.Common.{arith, refl, ◌∙◌, ◌≡◌}
+use Rattle.std.proofs.Common.{arith, refl, ◌∙◌, ◌≡◌, ◌+◌}
 use Rattle.certificate.specs.Layout.{entries_of}
 use Rattle.entry_setup.specs.Bytes.{bytes_of}
 use Rattle.judging.proofs.Overflows.{overflows_before_most}
 use Rattle.octets.proofs.Outcomes.{left_after, not_ok}
+use Rattle.octets.proofs.Picking.{byte_picks}
 use Rattle.verdict.proofs.Chaining.{next_entry, stop_entry, end_entries, one_more, none_before}
 use Rattle.verdict.proofs.judge_entries.Goals as goal
 
@@ -19,14 +20,17 @@ returns-in_err-searched c =
     }
 
 pub overflow_add-accepted : goal.overflow_add-accepted
-overflow_add-accepted c = ?
+overflow_add-accepted c =
+    let certificate = c.args.tables.now.certificate.now in
+    let more = one_more (bytes_of c.args.tables.now) c.loop-e.e c.loop-e.invariant.2 c.in_ok-searched.ensures.over (c.from.ensures ∙ byte_picks _) in
+    omega (arith, more, overflows_before_most (bytes_of c.args.tables.now) (c.loop-e.e + 1), certificate.laid.entries_most)
 
 pub loop-e-preserved : goal.loop-e-preserved
 loop-e-preserved c =
     let laid = c.args.tables.now.certificate.now.laid in (
       next_entry _ c.loop-e.e _ _ _ (omega (arith, laid.entries_are)) c.in_ok-searched.ensures.told c.loop-e.invariant.0,
       c.in_ok-searched.ensures.most,
-      one_more _ _ c.loop-e.invariant.2 c.in_ok-searched.ensures.over c.from.ensures,
+      one_more _ _ c.loop-e.invariant.2 c.in_ok-searched.ensures.over (c.from.ensures ∙ byte_picks _),
     )
 
 pub returns : goal.returns

@@ -2,6 +2,7 @@
 use Rattle.std.proofs.Common.{arith}
 use Rattle.reading.proofs.Whole.{reads}
 use Rattle.entry_search.proofs.Arriving.{lows_small, highs_small, image_is}
+use Rattle.entry_search.proofs.Overflowing.{box_over}
 use Rattle.entry_search.proofs.boxes.image_of.Goals as goal
 
 pub ends_under-requires : goal.ends_under-requires
@@ -17,4 +18,7 @@ ends_under-requires-2 c =
     (omega (arith, p.1, (reads tables.certificate.now).header.boxes_most), λ l hl. (p.0.high_most l hl, highs_small tables _ p.1 l hl))
 
 pub returns : goal.returns
-returns c = image_is c.args.entry.now _ _ _ c.requires.0 c.requires.1 c.ends_under.ensures c.ends_under-2.ensures
+returns c =
+    let entry = c.args.entry.now in
+    let p = c.requires in
+    (image_is entry _ _ _ p.0 p.1 c.ends_under.ensures.0 c.ends_under-2.ensures.0, box_over entry _ _ p.0 p.1 c.ends_under-2.ensures.1)

@@ -1,4 +1,4 @@
-use Rattle.std.proofs.Common.{arith, ◌≡◌, ◌+◌, ◌∙◌, get_or, length}
+use Rattle.std.proofs.Common.{arith, ◌≡◌, ◌+◌, ◌∙◌, get_or}
 use Rattle.successors.specs.Ranges.{how_many}
 use Rattle.entry_setup.specs.Bytes.{bytes_of}
 use Rattle.entry_search.specs.Search.{passes}
@@ -19,8 +19,3 @@ overflow_add-passed c =
 
 pub loop-run-preserved : goal.loop-run-preserved
 loop-run-preserved c = next c
-
-pub returns : goal.returns
-returns c =
-    let end : c.loop-run.run-index ≡ length c.args.runs.now = omega arith in
-    rw end at c.loop-run.invariant

@@ -1,4 +1,4 @@
-use Rattle.std.proofs.Common.{arith, ◌≡◌, ◌+◌, ◌*◌, ◌≤◌, ◌∙◌, length}
+use Rattle.std.proofs.Common.{arith, ◌+◌, ◌*◌, ◌≤◌, ◌∙◌, length}
 use native.Mathlib.Nat.{mul-le-mul_right}
 use Rattle.entry_setup.specs.Bytes.{bytes_of}
 use Rattle.entry_search.proofs.InBoxes.{sum_begins, sum_more, runs_most}
@@ -15,8 +15,3 @@ overflow_add-passed c =
     let entry = c.args.entry.now in
     let m : (c.loop-first.first-index + 1) * c.args.size ≤ length c.args.runs.now * c.args.size = mul-le-mul_right c.args.size (omega arith) in
     omega (arith, loop-first-preserved c, runs_most (bytes_of entry.tables.now) entry.number c.args.runs.now c.args.size (c.loop-first.first-index + 1), c.requires.most)
-
-pub returns : goal.returns
-returns c =
-    let end : c.loop-first.first-index ≡ length c.args.runs.now = omega arith in
-    rw end at c.loop-first.invariant

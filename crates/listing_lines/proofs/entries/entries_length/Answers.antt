@@ -10,4 +10,4 @@ unfolding entry_lines
 loop-e-init c = omega arith
 
 pub loop-e-preserved : goal.loop-e-preserved
-loop-e-preserved c = omega (arith, length_more c.args.s.now c.loop-e.e, ap length c.entry_line.ensures.0)
+loop-e-preserved c = omega (arith, length_more c.args.entries.now.bytes.now c.loop-e.e, ap length c.entry_line.ensures.0)

@@ -12,9 +12,9 @@ loop-e-init c = writes_none _
 
 pub put_line-requires : goal.put_line-requires
 put_line-requires c =
-    let s = c.args.s.now in
+    let s = c.args.entries.now.bytes.now in
     let e = c.loop-e.e in
-    rw c.entry_line.ensures.0 (room_left c.loop-e.invariant _ (entry_lines s c.args.n) (omega (arith, length_more s e, lines_grow s (e + 1) c.args.n (omega arith))) c.requires.3)
+    rw c.entry_line.ensures.0 (room_left c.loop-e.invariant _ (entry_lines s c.args.n) (omega (arith, length_more s e, lines_grow s (e + 1) c.args.n (omega arith))) c.requires.1)
 
 pub loop-e-preserved : goal.loop-e-preserved
-loop-e-preserved c = rw lines_more (then c.loop-e.invariant (omega (arith, c.requires.3.fits)) (rw c.entry_line.ensures.0 at c.put_line.ensures))
+loop-e-preserved c = rw lines_more (then c.loop-e.invariant (omega (arith, c.requires.1.fits)) (rw c.entry_line.ensures.0 at c.put_line.ensures))

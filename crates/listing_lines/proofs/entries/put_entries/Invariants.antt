@@ -4,4 +4,4 @@ use Rattle.text.specs.Writing.{Writes}
 use Rattle.listing_lines.proofs.entries.put_entries.Given as goal
 
 abbrev pub invariant-loop-e : goal.invariant-loop-e
-invariant-loop-e l = Writes l.initial.writer (entry_lines l.s l.e) l.writer
+invariant-loop-e l = Writes l.initial.writer (entry_lines l.entries.bytes.now l.e) l.writer

@@ -6,4 +6,4 @@ use Rattle.listing_lines.proofs.lines.entry_line.Goals as goal
 
 pub returns : goal.returns
 unfolding line_of entry_line
-returns c = within (rw c.bench_entry-entry.ensures.0) (entry_most c.args.s.now c.args.e)
+returns c = within (rw c.bench_entry-entry.ensures.0) (entry_most c.args.entries.now.bytes.now c.args.e)
