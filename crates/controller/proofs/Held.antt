@@ -20,9 +20,10 @@ use Rattle.network.specs.Conditions.{screening_of}
 use Rattle.controller.specs.declared.Controller.{Controller}
 use Rattle.controller.specs.declared.Shown.{Shown}
 use Rattle.controller.specs.State.{stored, is_certificate, holds_certificate}
-use Rattle.judging.specs.Asking.{is_proper, cell_asked, cell_fault, lookup_fault}
-use Rattle.controller.specs.Query.{query_fault, entry_asked, showing, refused, query_of}
-use Rattle.asking.specs.FoundEntries.{stored_fault, held_fault, found_at, not_found, cell_found, lookup_of, asked_of}
+use Rattle.judging.specs.Lookup.{entry_for}
+use Rattle.judging.specs.Asking.{cell_fault, lookup_fault}
+use Rattle.controller.specs.Query.{query_fault, showing, refused, query_of}
+use Rattle.asking.specs.FoundEntries.{Answer, stored_fault, held_fault, found_at, not_found, cell_found, lookup_of, asked_of}
 use Rattle.controller.specs.Parts.{shown_by}
 
 -- the first n bytes of a state's array are a certificate exactly where they pass
@@ -48,31 +49,35 @@ module _ (c : Controller) (size : length c.bytes ≡ max_length) where
       let none = need_fails _ _ _ e p in
       (holds_test c.bytes c.len size ∙ none, p ∙ need_fail _ _ _ none)
 
+-- what is due where the tests end in f: entry e is shown, or f refuses
+abbrev pub due : Controller → ℕ → Report → Shown
+due c e f = cond (eqb f.number 0) (showing c e) (refused c f)
+
+-- what is found, shown: for a cell, and behind a test
+module _ (c : Controller) where
+  pub cell_shown : (d : ℕ) → shown_by c (cell_found (stored c) c.mode d) ≡ due c (entry_for (stored c) d c.mode) (cell_fault (stored c) c.mode d)
+  unfolding cell_found
+  cell_shown d = go (eqb fault.number 0)
+    where
+      fault : Report
+      fault = cell_fault (stored c) c.mode d
+
+      e : ℕ
+      e = entry_for (stored c) d c.mode
+
+      go : (b : Bool) → shown_by c (cond b (found_at (stored c) e) (not_found fault c.mode)) ≡ cond b (showing c e) (refused c fault)
+      go true = refl
+      go false = refl
+
+  pub test_shown : (b : Bool) (n e : ℕ) (next : Answer) (f : Report) → eqb n 0 ≡ false → shown_by c next ≡ due c e f
+      → shown_by c (cond b next (not_found (refusal n 0) c.mode)) ≡ due c e (need b (refusal n 0) f)
+  unfolding need
+  test_shown true n e next f some h = h
+  test_shown false n e next f some h = rw some refl
+
 -- what is found in the stored bytes, shown, is the query's answer
 pub query_asks : (c : Controller) (queues : List ℕ) (scale : ℕ) → length c.bytes ≡ max_length
     → shown_by c (asked_of c.bytes c.len c.mode queues scale) ≡ query_of c queues scale
-unfolding asked_of lookup_of cell_found query_of query_fault lookup_fault need
-query_asks c queues scale size = rw (holds_test c.bytes c.len size) (go (eqb (stored_fault c.bytes c.len).number 0))
-  where
-    cell : ℕ
-    cell = cell_asked (stored c) queues scale
-
-    fault : Report
-    fault = cell_fault (stored c) c.mode cell
-
-    -- what is due where the tests end in f
-    due : Report → Shown
-    due f = cond (eqb f.number 0) (showing c (entry_asked c queues scale)) (refused c f)
-
-    found : (b : Bool) → shown_by c (cond b (found_at (stored c) (entry_asked c queues scale)) (not_found fault c.mode)) ≡ cond b (showing c (entry_asked c queues scale)) (refused c fault)
-    found true = refl
-    found false = refl
-
-    proper : (b : Bool) → shown_by c (cond b (cell_found (stored c) c.mode cell) (not_found (refusal 16 0) c.mode)) ≡ due (need b (refusal 16 0) fault)
-    proper true = found (eqb fault.number 0)
-    proper false = refl
-
-    go : (b : Bool) → shown_by c (cond b (lookup_of (stored c) c.mode queues scale) (not_found (refusal 18 0) c.mode))
-        ≡ due (need b (refusal 18 0) (lookup_fault (stored c) c.mode queues scale))
-    go true = proper (is_proper (stored c) queues scale)
-    go false = refl
+unfolding asked_of lookup_of query_of query_fault lookup_fault
+query_asks c queues scale size =
+    rw (holds_test c.bytes c.len size) (test_shown c _ 18 _ _ _ refl (test_shown c _ 16 _ _ _ refl (cell_shown c _)))

@@ -18,7 +18,7 @@ impl Controller {
             Ok(found) => {
                 self.mode = found.mode;
                 Shown {
-                    report: octets::report(0, 0, 0, 0),
+                    report: octets::accept(),
                     signal: found.signal,
                     green: found.green,
                     state: self,

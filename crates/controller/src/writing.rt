@@ -30,7 +30,7 @@ impl Controller {
         ensures { (result ≡ write_report self buffer.old start) × (buffer.new ≡ write_buffer self buffer.old start) }
     {
         match self.write_stored(buffer, start) {
-            Ok(length) => octets::report(0, length, 0, 0),
+            Ok(length) => octets::success(length),
             Err(refused) => Report::from(refused),
         }
     }
