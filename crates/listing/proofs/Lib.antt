@@ -1,3 +1,2 @@
 -- What the call that lists answers, from its parts.
 pub mod Sending
-pub mod Listings

@@ -1,2 +1,2 @@
 -- What the code that lists goes by.
-pub mod Entries
+pub mod Rendering

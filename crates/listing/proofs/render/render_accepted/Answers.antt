@@ -1,14 +1,14 @@
 -- `listing::render::render_accepted` meets its contract.
-use native.Mathlib.Omega.{arith}
-use mathlib.Core.Path.{refl, ◌∙◌, ap}
-use borrow.Author.Rules.{rules}
-use Prim.Native.Nat.{ℕ}
-use Rattle.certificate.specs.Checks.{report_with}
-use Rattle.listing.proofs.Sending.{refuses, sends}
+use Rattle.std.proofs.Common.{refl, rules}
+use Rattle.listing.proofs.Sending.{refuses, has_room, sends}
 use Rattle.listing.proofs.render.render_accepted.Goals as goal
 
-pub returns-then-buffer-size : goal.returns-then-buffer-size
-returns-then-buffer-size c = refuses (omega arith) c.refuse.ensures
+pub returns-in_err-require-clause-sent : goal.returns-in_err-require-clause-sent
+returns-in_err-require-clause-sent c = refuses _ _ c.from_residual.ensures.1 (rw c.text_length-size.ensures.0 at c.in_err-require.ensures)
 
-pub returns : goal.returns
-returns c = sends (omega arith) refl refl c.put_text.ensures (search rules) (c.report.ensures ∙ ap (λ (n : ℕ). report_with 0 n 0 0) c.text_length-size.ensures.0)
+pub put_text-requires : goal.put_text-requires
+put_text-requires c = has_room (rw c.text_length-size.ensures.0 at c.in_ok-require.ensures)
+
+pub returns-clause-sent : goal.returns-clause-sent
+returns-clause-sent c =
+    rw c.text_length-size.ensures.0 (sends (rw c.text_length-size.ensures.0 at c.in_ok-require.ensures) refl refl c.put_text.ensures (search rules))
