@@ -5,16 +5,15 @@ ghost use Rattle.runs.specs.Claim.{RunClaim};
 ghost use Rattle.controller.specs.State.{holding, load_of};
 
 use crate::{Controller, Loaded};
-use octets::filling;
 
 impl Controller {
     // The state that holds a copy of s, in mode 0, with zeros past the copy.
-    fn holding(s: &[u8]) -> Controller
+    pub fn holding(s: &[u8]) -> Controller
         requires { length s.now ≤ max_length }
         ensures { result ≡ holding s.now }
     {
         let mut bytes = [0u8; Controller::SIZE];
-        filling::put(s, s.len(), &mut bytes);
+        bytes[..s.len()].copy_from_slice(s);
         Controller {
             bytes,
             len: s.len(),
@@ -26,21 +25,17 @@ impl Controller {
     pub fn load(self, s: &[u8]) -> Loaded
         ensures { (result ≡ load_of self s.now) × (result.report.number ≡ 0 → RunClaim s.now) }
     {
-        let verdict = verdict::judge(s);
-        let report = verdict.report;
-        let overflows = verdict.overflows;
-        if report.number != 0 {
-            return Loaded {
-                report,
-                overflows,
+        match verdict::judge(s) {
+            Ok(accepted) => Loaded {
+                report: accepted.into(),
+                overflows: accepted.overflows,
+                state: Controller::holding(s),
+            },
+            Err(refused) => Loaded {
+                report: refused.into(),
+                overflows: 0,
                 state: self,
-            };
-        }
-        let state = Controller::holding(s);
-        Loaded {
-            report,
-            overflows,
-            state,
+            },
         }
     }
 }

@@ -2,11 +2,11 @@
 use Rattle.controller.proofs.Loads.{load_refuses, load_fits, load_accepts}
 use Rattle.controller.proofs.Controller.load.Goals as goal
 
-pub returns-then-report-ne0 : goal.returns-then-report-ne0
-returns-then-report-ne0 c = let r = c.judge-verdict.ensures in load_refuses _ _ _ r.0 r.1 _ c.if-report-ne0.true
+pub holding-requires : goal.holding-requires
+holding-requires c = load_fits _ _ c.in-Ok.ensures.told
 
-pub holding-state-requires : goal.holding-state-requires
-holding-state-requires c = search load_fits
+pub returns-in-Ok : goal.returns-in-Ok
+returns-in-Ok c = rw (c.into.ensures, c.holding.ensures) (load_accepts _ _ c.in-Ok.ensures.told _ _ c.in-Ok.ensures.overflows)
 
-pub returns : goal.returns
-returns c = let r = c.judge-verdict.ensures in load_accepts _ _ _ r.0 r.1 c.if-report-ne0.false _ _ c.holding-state.ensures
+pub returns-in-Err : goal.returns-in-Err
+returns-in-Err c = rw c.into-in-Err.ensures (load_refuses _ _ c.in-Err.refused _ c.in-Err.ensures.told c.in-Err.ensures.overflows)
