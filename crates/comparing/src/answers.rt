@@ -9,16 +9,12 @@ use covering::Comparison;
 pub fn better(first: bool, second: bool) -> Comparison
     ensures { result ≡ better_of first second }
 {
-    if first {
-        if second {
-            return Comparison::Equal;
-        }
-        return Comparison::First;
+    match (first, second) {
+        (true, true) => Comparison::Equal,
+        (true, false) => Comparison::First,
+        (false, true) => Comparison::Second,
+        (false, false) => Comparison::Neither,
     }
-    if second {
-        return Comparison::Second;
-    }
-    Comparison::Neither
 }
 
 // Its number, places and count.
@@ -26,11 +22,8 @@ pub fn report_of(found: Comparison) -> Report
     ensures { result ≡ report_of found }
 {
     match found {
-        Comparison::Equal => octets::accept(),
-        Comparison::First => octets::accept(),
-        Comparison::Second => octets::accept(),
-        Comparison::Neither => octets::accept(),
         Comparison::Refused(report) => report,
+        _ => octets::accept(),
     }
 }
 

@@ -1,25 +1,17 @@
 -- `comparing::compare` meets its contract.
-use Rattle.comparing.proofs.Parts.{compared, first_out, second_out, both_out, accepted_readable}
+use Rattle.comparing.proofs.Parts.{compared, first_out, second_out, both_out}
 use Rattle.comparing.proofs.compare.Goals as goal
 
-pub returns-then-f-ne0 : goal.returns-then-f-ne0
-returns-then-f-ne0 c = compared _ _ (first_out _ _ c.judge_with_layout-one.ensures.0.report_is c.if-f-ne0.true)
+pub returns-in-Err : goal.returns-in-Err
+returns-in-Err c = rw c.into.ensures (compared _ _ (first_out _ _ c.in-Err.e c.in-Err.ensures.told))
 
-pub returns-then-g-ne0 : goal.returns-then-g-ne0
-returns-then-g-ne0 c =
-    let one = c.judge_with_layout-one.ensures.0 in
-    let two = c.judge_with_layout-two.ensures.0 in
-    compared _ _ (second_out _ _ one.report_is c.if-f-ne0.false two.report_is c.if-g-ne0.true)
-
-pub compare_accepted-requires : goal.compare_accepted-requires
-compare_accepted-requires c =
-    let one = c.judge_with_layout-one.ensures.0 in
-    let two = c.judge_with_layout-two.ensures.0 in
-    let ok = c.if-f-ne0.false in
-    (one.laid ok, accepted_readable _ one ok, two.laid c.if-g-ne0.false, accepted_readable _ two c.if-g-ne0.false)
+pub returns-in-Err-judge_with_layout : goal.returns-in-Err-judge_with_layout
+returns-in-Err-judge_with_layout c =
+    let second = c.in-Err-judge_with_layout in
+    rw c.into-in-Err-judge_with_layout.ensures (compared _ _ (second_out _ _ second.f _ c.in-Ok.ensures.told second.ensures.told))
 
 pub returns : goal.returns
 returns c =
-    let one = c.judge_with_layout-one.ensures.0 in
-    let two = c.judge_with_layout-two.ensures.0 in
-    compared _ _ (both_out _ _ one.report_is c.if-f-ne0.false two.report_is c.if-g-ne0.false c.compare_accepted.ensures)
+    let first = c.in-Ok.ensures in
+    let second = c.in-Ok-judge_with_layout.ensures in
+    compared _ _ (both_out _ _ _ _ first.told second.told (rw (first.bytes, second.bytes) at c.compare_accepted.ensures))

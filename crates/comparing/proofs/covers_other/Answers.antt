@@ -1,10 +1,11 @@
 -- `comparing::covers_other` meets its contract.
-use Rattle.octets.proofs.Cases.{not_yes, not_no}
-use Rattle.comparing.proofs.Parts.{covers_not, covers_rest}
+use Rattle.covering.specs.Covering.{covers}
 use Rattle.comparing.proofs.covers_other.Goals as goal
 
-pub returns-then-not-same_front : goal.returns-then-not-same_front
-returns-then-not-same_front c = search (covers_not, not_yes)
+pub returns-then-same_front : goal.returns-then-same_front
+unfolding covers
+returns-then-same_front c = rw (← c.same_front.ensures, c.if-same_front.true) c.all_matched.ensures
 
-pub returns : goal.returns
-returns c = search (covers_rest, not_no)
+pub returns-else-same_front : goal.returns-else-same_front
+unfolding covers
+returns-else-same_front c = rw (← c.same_front.ensures, c.if-same_front.false)

@@ -1,16 +1,14 @@
-use native.Mathlib.Omega.{arith}
-use borrow.Author.Rules.{rules}
+use Rattle.std.proofs.Common.{rules, arith}
 use Rattle.comparing.proofs.Walking.{key_more}
 use Rattle.comparing.proofs.matching.first_at.Goals as goal
 
 pub returns-then-key-key_of : goal.returns-then-key-key_of
-returns-then-key-key_of c = record { most = omega arith; before = search rules; here = λ h. omega arith }
+returns-then-key-key_of c = record { most = omega (arith, c.args.certificate.now.laid.entries_are); before = search rules; here = λ h. omega arith }
 
 pub loop-k-preserved : goal.loop-k-preserved
-loop-k-preserved c =
-    let l = c.loop-k in
-    let a = c.args in
-    (omega arith, key_more a.s.now l.k a.key l.invariant.1 (omega (arith, c.key_of.ensures)))
+loop-k-preserved c = key_more _ c.loop-k.k _ c.loop-k.invariant (omega (arith, c.key_of.ensures))
 
 pub returns : goal.returns
-returns c = record { most = omega arith; before = search rules; here = λ h. absurd (omega arith) }
+returns c =
+    let are = c.args.certificate.now.laid.entries_are in
+    record { most = omega (arith, are); before = λ i h. c.loop-k.invariant i (omega arith); here = λ h. absurd (omega (arith, are)) }
