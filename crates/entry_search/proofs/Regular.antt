@@ -18,7 +18,7 @@ use Rattle.octets.proofs.Fitting.{product_most}
 use Rattle.reading.specs.declared.Certificate.{Certificate}
 use Rattle.judging.specs.Lookup.{entry_for, is_listed}
 use Rattle.judging.specs.EntryTests.{follows, is_lower, successor_fault, count_after, look_fault, cell_round, box_round, accepted}
-use Rattle.entry_search.specs.Search.{box_alone, boxes_from}
+use Rattle.entry_search.specs.Search.{boxes_from}
 
 -- a refusal is the answer; else what is next goes on from its count
 pub after : Report → (ℕ → Report) → Report
@@ -115,11 +115,7 @@ module _ (certificate : Certificate) where
   abbrev s : List ℕ
   s = certificate.bytes.now
 
-  -- a box alone looks up each cell at most, and an entry each cell of each box
-  pub box_count : (e b n : ℕ) → (box_alone s e b n).count ≤ n + 4096
-  unfolding box_alone
-  box_count e b n = omega (arith, box_grows s e b n 0 accepted (λ m. omega arith), certificate.laid.cells_are, certificate.laid.cells_most)
-
+  -- an entry looks up each cell of each box at most
   pub boxes_count : (e n : ℕ) → (boxes_from s e 0 n).count ≤ n + 32768
   unfolding boxes_from
   boxes_count e n =

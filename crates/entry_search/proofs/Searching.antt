@@ -3,9 +3,6 @@ use Prim.Native.Nat.{ℕ, ◌+◌, ◌≤◌, ◌<◌}
 use mathlib.Core.List.{List}
 use mathlib.Core.Bool.{true, false}
 use mathlib.Core.Path.{◌≡◌, refl, sym, ap, ◌∙◌}
-use Rattle.std.specs.Prelude.{Result}
-use Rattle.std.specs.Result.{IsErrAnd}
-use Rattle.std.proofs.lemmas.Result.{err_from_is_err_and}
 use Rattle.certificate.specs.declared.Report.{Report}
 use Rattle.certificate.specs.Loops.{loop_from}
 use Rattle.certificate.specs.Checks.{fine, or_else}
@@ -13,15 +10,11 @@ use Rattle.certificate.specs.Layout.{cells_of, boxes_of}
 use Rattle.certificate.proofs.Tests.{or_next}
 use Rattle.certificate.proofs.Loops.{loop_round, loop_end}
 use Rattle.octets.specs.declared.refusals.Refused.{Refused}
-use Rattle.octets.specs.Refusals.{report_of, told_after}
+use Rattle.octets.specs.Refusals.{report_of}
 use Rattle.octets.proofs.Outcomes.{refuses, stands}
 use Rattle.judging.specs.EntryTests.{follows, successor_fault, count_after, look_fault, cell_round, box_round, accepted}
 use Rattle.entry_search.specs.Search.{box_alone, boxes_from}
 use Rattle.entry_search.proofs.Regular.{after, after_pass, after_stop, box_regular}
-
--- a call that refuses is left by `?`: its refusal is told
-pub left_after : {T : Type 0} (count : T → ℕ) (r : Result T Refused) (e : Refused) → IsErrAnd r (λ x. x ≡ e) → (t : Report) → report_of e ≡ t → told_after count r ≡ t
-left_after count r e h t p = let q = err_from_is_err_and r h in rw (q.1, q.2) p
 
 module _ (s : List ℕ) (e b n : ℕ) where
   goes_on : (k : ℕ) (next : ℕ → Report) → accepted k ≡ box_alone s e b n → box_round s e b n next ≡ next k

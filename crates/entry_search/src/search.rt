@@ -1,7 +1,7 @@
 // The search through an entry's successors.
 ghost use Rattle.std.specs.Prelude.{◌≡◌, ℕ, ◌+◌, ◌*◌, ◌<◌, ◌≤◌, length, get_or, IfOk};
 ghost use Rattle.std.specs.Option.{IfSome};
-ghost use Rattle.certificate.specs.Layout.{max_boxes, max_cells, max_entries, cells_of, next_mode_of};
+ghost use Rattle.certificate.specs.Layout.{max_boxes, max_cells, cells_of, next_mode_of};
 ghost use Rattle.octets.specs.Refusals.{told, told_after};
 ghost use Rattle.rank_tables.specs.Index.{rank_at};
 ghost use Rattle.judging.specs.EntryTests.{successor_fault, accepted};
@@ -132,38 +132,6 @@ fn whole_box(entry: &Entry<'_>, ranges: &Ranges, runs: &mut [u16; limits::MAX_CE
     }
 }
 
-// The successors of a box looked up in the order of their cells, up to the first that is refused: each adds one to the count, the refused one
-// too.
-fn in_order(entry: &Entry<'_>, ranges: &Ranges, mut count: u32) -> Result<u32, Refused>
-    requires { count ≤ max_boxes * max_cells * max_entries }
-    ensures { (b : ℕ) → BoxRanges (bytes_of entry.now.tables.now) entry.now.number b ranges.now → told_after (λ n. n) result ≡ box_alone (bytes_of entry.now.tables.now) entry.now.number b count }
-{
-    let tables = entry.tables;
-    for d in 0..tables.certificate.layout.cells {
-        if seek::in_ranges(tables.certificate, tables.digits, ranges, d) {
-            count += 1;
-            check_successor(entry, d, count)?;
-        }
-    }
-    Ok(count)
-}
-
-// The search of one box: the count after it. A box of which every successor passes is counted as it is looked up as a whole.
-fn search_box(
-    entry: &Entry<'_>,
-    ranges: &Ranges,
-    runs: &mut [u16; limits::MAX_CELLS],
-    count: u32,
-) -> Result<u32, Refused>
-    requires { Bounded (bytes_of entry.now.tables.now) ranges.now × (count ≤ max_boxes * max_cells * max_entries) }
-    ensures { (b : ℕ) → BoxRanges (bytes_of entry.now.tables.now) entry.now.number b ranges.now → told_after (λ n. n) result ≡ box_alone (bytes_of entry.now.tables.now) entry.now.number b count }
-{
-    match whole_box(entry, ranges, runs) {
-        Some(passed) => Ok(count + passed),
-        None => in_order(entry, ranges, count),
-    }
-}
-
 // What the search of an entry finds where it refuses no successor: the lookups so far, and whether some link may exceed its cap in some box.
 #[derive(Clone, Copy)]
 pub struct Searched {
@@ -171,9 +139,10 @@ pub struct Searched {
     pub over: bool,
 }
 
-// The search of an entry: arrival boxes ascending and successor cells ascending, up to the first unlisted or not lower successor. Each lookup
-// is counted, the refused one too. `ends` has the ends of the entry's image before arrivals, `count` is the lookups before it; `runs` is room
-// for the starts of the runs of a box.
+// The nested search of an entry: arrival boxes ascending and successor cells ascending, left by the label at the first unlisted or not lower
+// successor. Each lookup is counted, the refused one too; a box of which every successor passes is counted as it is looked up as a whole.
+// `ends` has the ends of the entry's image before arrivals, `count` is the lookups before it; `runs` is room for the starts of the runs of a
+// box.
 pub fn search_boxes(
     entry: &Entry<'_>,
     ends: &Ends,
@@ -183,15 +152,32 @@ pub fn search_boxes(
     requires { EntryEnds (bytes_of entry.now.tables.now) entry.now.number ends.now × (count ≤ max_boxes * max_cells * entry.now.number) }
     ensures { (told_after (λ r. r.count) result ≡ boxes_from (bytes_of entry.now.tables.now) entry.now.number 0 count) × ((told_after (λ r. r.count) result).count ≤ max_boxes * max_cells * (entry.now.number + 1)) × IfOk result (λ r. r.over ≡ entry_overflows (bytes_of entry.now.tables.now) entry.now.number) }
 {
+    let tables = entry.tables;
     let mut searched = Searched { count, over: false };
+    let mut refused = None;
     let mut ranges = Ranges {
         first: [0; limits::MAX_LINKS],
         last: [0; limits::MAX_LINKS],
     };
-    for b in 0..entry.tables.certificate.layout.boxes {
+    'search: for b in 0..tables.certificate.layout.boxes {
         let exceeds = boxes::box_ranges(entry, ends, b, &mut ranges);
         searched.over |= exceeds;
-        searched.count = search_box(entry, &ranges, runs, searched.count)?;
+        if let Some(passed) = whole_box(entry, &ranges, runs) {
+            searched.count += passed;
+            continue;
+        }
+        for d in 0..tables.certificate.layout.cells {
+            if seek::in_ranges(tables.certificate, tables.digits, &ranges, d) {
+                searched.count += 1;
+                if let Err(e) = check_successor(entry, d, searched.count) {
+                    refused = Some(e);
+                    break 'search;
+                }
+            }
+        }
     }
-    Ok(searched)
+    match refused {
+        Some(e) => Err(e),
+        None => Ok(searched),
+    }
 }
