@@ -1,42 +1,38 @@
 -- The copies between a state and its bytes, what a slice holds by its length, and a lent state after a call. Assumes nothing.
-use Prim.Native.Nat.{ℕ, ◌+◌}
-use mathlib.Core.List.{List, [], ◌++◌, append-nil}
-use mathlib.Core.Bool.{Bool, true, false, not, cond}
-use mathlib.Core.Path.{◌≡◌, refl, sym, ap, ◌∙◌}
-use native.Mathlib.Omega.{arith}
+use Rattle.std.proofs.Common.{◌≡◌, ℕ, List, [], ◌∷◌, ◌++◌, Bool, true, false, w64, length, take, drop, refl, sym, ap, ◌∙◌, arith, length-drop}
+use Rattle.std.proofs.Math.ListN.{set}
+use Rattle.std.proofs.Math.Seq.{drop_at}
+use Rattle.std.proofs.lemmas.List.{take_at, set-append_right}
+use mathlib.Core.Bool.{not}
 use borrow.Author.Tests.{eq-eqb, ne_eqb, eqb-true, eqb-false}
-use lib.Dec.{eqb}
 use Rattle.certificate.specs.Layout.{max_length}
 use Rattle.certificate.specs.Octets.{byte_at}
+use Rattle.certificate.specs.Checks.{refusal, fine, need}
 use Rattle.controller.specs.declared.Controller.{Controller}
 use Rattle.controller.specs.State.{fresh_state}
 use Rattle.octets.proofs.Cases.{not_yes, not_no}
-use Rattle.packed_state.specs.State.{state_mode_at, state_size, has_state_size, eight_at, state_of, held_in, state_bytes, bytes_after}
-use lib.ListN.{length, take, drop, replicate, length-replicate, drop_of_length-le}
-use lib.Seq.{take_all, take_at, drop_at, drop-drop}
+use Rattle.octets.proofs.Outcomes.{need_holds}
+use Rattle.std.specs.Int.{to_be_bytes}
+use Rattle.packed_state.proofs.Octets.{tail_is}
+use Rattle.packed_state.specs.State.{length_size, state_mode_at, state_size, has_state_size, eight_at, state_of, held_in, state_bytes, bytes_after}
 
--- n bytes of s into an array of n zeros
-pub copied : (n : ℕ) (s b : List ℕ) → b ≡ take n s ++ drop n (replicate n 0) → b ≡ take n s
-copied n s b e =
-    let zeros : List ℕ = replicate n 0 in
-    let none : drop n zeros ≡ [] = drop_of_length-le zeros {i = n} (omega (arith, length-replicate {A = ℕ} n 0)) in
-    e ∙ rw (none, append-nil)
+-- one element is set
+only : (l : List ℕ) (x : ℕ) → length l ≡ 1 → set l 0 x ≡ x ∷ []
+only [] x h = absurd (omega arith)
+only (y ∷ []) x h = refl
+only (y ∷ z ∷ l) x h = absurd (omega arith)
 
-module _ (n k : ℕ) (bytes st b : List ℕ) (size : length bytes ≡ n) (whole : length st ≡ n + k) (put : b ≡ take n bytes ++ drop n st) where
-  front_then_rest : b ≡ bytes ++ drop n st
-  front_then_rest = put ∙ rw (take_all n bytes (omega arith))
-
-  front : take n b ≡ bytes
-  front = rw front_then_rest (take_at bytes (drop n st) n size)
-
-  rest : drop (n + k) b ≡ []
-  rest =
-      sym (drop-drop k n b) ∙ rw (front_then_rest, drop_at bytes (drop n st) n size, drop-drop)
-      (drop_of_length-le st {i = n + k} (omega arith))
-
-  -- the array's bytes at the front, then p, and nothing behind it
-  pub packed : (p : List ℕ) → take n b ++ (p ++ drop (n + k) b) ≡ bytes ++ p
-  packed p = rw (front, rest, append-nil)
+-- the array, the bytes of the length and the mode, put one after another over a state's bytes
+pub packed : (held : Controller) (st front len : List ℕ) → length held.bytes ≡ max_length → length st ≡ state_size → front ≡ held.bytes → len ≡ to_be_bytes w64 held.len
+    → set (take max_length (front ++ drop max_length st) ++ (len ++ drop length_size (drop max_length (front ++ drop max_length st)))) state_mode_at held.mode ≡ state_bytes held
+unfolding state_bytes
+packed held st front len b s f l =
+    let rest = drop max_length st in
+    let last : length (drop length_size rest) ≡ 1 = omega (arith, length-drop length_size rest, length-drop max_length st) in
+    rw (f, take_at held.bytes rest max_length b, drop_at held.bytes rest max_length b, l)
+    (set-append_right held.bytes (to_be_bytes w64 held.len ++ drop length_size rest) max_length state_mode_at held.mode b (omega arith)
+    ∙ ap (λ (l : List ℕ). held.bytes ++ l) (set-append_right (to_be_bytes w64 held.len) (drop length_size rest) length_size length_size held.mode refl (omega arith)
+    ∙ ap (λ (l : List ℕ). to_be_bytes w64 held.len ++ l) (only _ held.mode last) ∙ sym (tail_is held.len held.mode)))
 
 -- a test of the size that had the outcome r, in `if !r`
 pub is_state : (s : List ℕ) (r : Bool) → r ≡ has_state_size s → not r ≡ false → length s ≡ state_size
@@ -44,6 +40,10 @@ is_state s r e left = eqb-true _ _ (not_no r _ e left)
 
 pub is_none : (s : List ℕ) (r : Bool) → r ≡ has_state_size s → not r ≡ true → length s ≡ state_size → ⊥
 is_none s r e taken = eqb-false _ _ (not_yes r _ e taken)
+
+-- a test of the size that passed, as `require` makes it
+pub state_fits : (s : List ℕ) → fine ≡ need (has_state_size s) (refusal 18 0) fine → length s ≡ state_size
+state_fits s fits = eqb-true _ _ (need_holds _ 17 0 fits)
 
 -- what a slice holds, by its length
 pub right_length : (s : List ℕ) → length s ≡ state_size → held_in s ≡ state_of s
@@ -68,12 +68,3 @@ refusal_keeps number next state bad = rw (ne_eqb number 0 bad)
 pub success_passes : (number : ℕ) (next : Controller) (state after : List ℕ) → number ≡ 0 → after ≡ state_bytes next → after ≡ bytes_after number next state
 unfolding bytes_after
 success_passes number next state after z e = rw (eq-eqb number 0 z) e
-
--- the next state matters on success alone
-pub same_after : (number : ℕ) (c d : Controller) (state : List ℕ) → (number ≡ 0 → c ≡ d) → bytes_after number c state ≡ bytes_after number d state
-unfolding bytes_after
-same_after number c d state same = go (eqb number 0) refl
-  where
-    go : (b : Bool) → eqb number 0 ≡ b → cond b (state_bytes c) state ≡ cond b (state_bytes d) state
-    go true e = ap state_bytes (same (eqb-true _ _ e))
-    go false e = refl
