@@ -1,12 +1,14 @@
 -- The calls on a state that is lent as bytes: what each answers, and the bytes afterwards.
 -- A slice of any other length than a state's gets 18 from each of them.
-use Rattle.std.specs.Prelude.{ℕ, List, ◌≡◌}
+use Rattle.std.specs.Prelude.{ℕ, List, ◌≡◌, Result}
 use Rattle.certificate.specs.declared.Report.{Report}
 use Rattle.certificate.specs.Checks.{refusal, fine, need}
 use Rattle.certificate.specs.Loops.{pick}
 use Rattle.judging.specs.Verdict.{verdict_of}
 use Rattle.judging.specs.Overflow.{overflows_of}
-use Rattle.verdict.specs.declared.Verdict.{Verdict}
+use Rattle.octets.specs.declared.refusals.Refused.{Refused}
+use Rattle.verdict.specs.declared.Accepted.{Accepted}
+use Rattle.verdict.specs.Entries.{verdict_told, overflows_in}
 use Rattle.runs.specs.Claim.{RunClaim}
 use Rattle.controller.specs.declared.Shown.{Shown}
 use Rattle.controller.specs.State.{fresh_state, holding}
@@ -30,9 +32,9 @@ load_report state s = need (has_state_size state) (refusal 18 0) (verdict_of s)
 abbrev pub load_overflows : List ℕ → List ℕ → ℕ
 load_overflows state s = pick (has_state_size state) (overflows_of s) 0
 
-pub record HeldLoad (s state state' : List ℕ) (v : Verdict) : Type 0 where
-  pub report : v.report ≡ load_report state s
-  pub overflows : v.overflows ≡ load_overflows state s
+pub record HeldLoad (s state state' : List ℕ) (v : Result Accepted Refused) : Type 0 where
+  pub report : verdict_told v ≡ load_report state s
+  pub overflows : overflows_in v ≡ load_overflows state s
   pub bytes : state' ≡ bytes_after (load_report state s).number (holding s) state
   pub runs : (load_report state s).number ≡ 0 → RunClaim s
 

@@ -10,9 +10,11 @@ ghost use Rattle.held_state.specs.Held.{shown_for, display_of, HeldFresh, HeldLo
 
 use certificate::Report;
 use controller::{Controller, Shown};
-use verdict::Verdict;
+use octets::refusals::{Refusal, Refused, refuse, require};
+use verdict::Accepted;
 
-// What is displayed for a query or a poll: its report, the signal to show and its green byte.
+// What is displayed for a query or a poll: its report, the signal to show and its green byte. All of it crosses to C, and the report is the one
+// that the answer to show (`Shown`) has, so a refusal is no `Err` here.
 #[derive(Clone, Copy)]
 pub struct Display {
     pub report: Report,
@@ -24,57 +26,53 @@ pub struct Display {
 pub fn no_state() -> Display
     ensures { result ≡ display_of (refused fresh_state (refusal 18 0)) }
 {
-    let report = octets::refuse(18, 0);
     Display {
-        report,
+        report: refuse(Refusal::NoCertificate, 0).into(),
         signal: 0,
         green: 0,
     }
 }
 
-// Keeps the answer's state in the lent slice, where the answer's number says that it succeeds; the rest is displayed.
-pub fn keep(shown: Shown, state: &mut [u8]) -> Display
+// Keeps the answer's state in the lent slice, where the answer is no refusal; the rest is displayed.
+pub fn keep(shown: &Shown, state: &mut [u8]) -> Display
     requires { length state.old ≡ state_size }
-    ensures { Displayed shown state.old state.new result }
+    ensures { Displayed shown.now state.old state.new result }
 {
-    let report = shown.report;
-    let next = shown.state;
-    packed_state::pack(report.number, next, state);
+    let succeeds = shown.report.number == 0;
+    if succeeds {
+        packed_state::pack(&shown.state, state);
+    }
     Display {
-        report,
+        report: shown.report,
         signal: shown.signal,
         green: shown.green,
     }
 }
 
-// Makes the slice the fresh state.
+// Makes the slice the fresh state. The report crosses to C.
 pub fn fresh(state: &mut [u8]) -> Report
     ensures { HeldFresh state.old state.new result }
 {
     if !packed_state::has_state_size(state) {
-        return octets::refuse(18, 0);
+        return refuse(Refusal::NoCertificate, 0).into();
     }
     let next = Controller::fresh();
-    packed_state::pack(0, next, state);
+    packed_state::pack(&next, state);
     octets::accept()
 }
 
 // Loads any bytes. An accepted load keeps nothing of the state before, so that state is not unpacked.
-pub fn load(state: &mut [u8], s: &[u8]) -> Verdict
+pub fn load(state: &mut [u8], s: &[u8]) -> Result<Accepted, Refused>
     ensures { HeldLoad s.now state.old state.new result }
 {
-    if !packed_state::has_state_size(state) {
-        return verdict::refused(octets::refuse(18, 0));
-    }
-    let loaded = Controller::fresh().load(s);
-    let judged = loaded.report;
-    let overflows = loaded.overflows;
-    let next = loaded.state;
-    packed_state::pack(judged.number, next, state);
-    Verdict {
-        report: judged,
-        overflows,
-    }
+    require(
+        packed_state::has_state_size(state),
+        Refusal::NoCertificate,
+        0,
+    )?;
+    let accepted = verdict::judge(s)?;
+    packed_state::pack(&Controller::holding(s), state);
+    Ok(accepted)
 }
 
 // What the state that is held shows for queues over a scale, and the next state.
@@ -84,6 +82,5 @@ pub fn query(state: &mut [u8], queues: &[u32], scale: u32) -> Display
     if !packed_state::has_state_size(state) {
         return no_state();
     }
-    let held = packed_state::unpack(state);
-    keep(held.query(queues, scale), state)
+    keep(&packed_state::unpack(state).query(queues, scale), state)
 }

@@ -1,8 +1,7 @@
--- `held_state::query` meets its contract: 18, or what the query shows and the next state's bytes.
-use mathlib.Core.Path.{◌≡◌}
-use lib.ListN.{length}
+-- `held_state::query` meets its contract: 18 where the state has another length.
+use Rattle.std.proofs.Common.{◌≡◌, length}
 use Rattle.packed_state.specs.State.{state_size}
-use Rattle.packed_state.proofs.Packing.{is_state, is_none}
+use Rattle.packed_state.proofs.Packing.{is_none}
 use Rattle.held_state.proofs.Lengths.{other_lengths, no_state_display}
 use Rattle.held_state.proofs.query.Goals as goal
 
@@ -11,15 +10,3 @@ returns-then-not-has_state_size c =
     let a = c.args in
     let none : length a.state.now ≡ state_size → ⊥ = search is_none in
     no_state_display _ _ _ ((other_lengths a.state.now none).query a.queues.now a.scale) c.no_state.ensures
-
-pub unpack-held-requires : goal.unpack-held-requires
-unpack-held-requires c = search is_state
-
-pub keep-requires : goal.keep-requires
-keep-requires c = search is_state
-
-pub returns : goal.returns
-returns c =
-    let held = c.unpack-held.ensures in
-    let shown = c.query.ensures in
-    rw (← held, ← shown) c.keep.ensures
