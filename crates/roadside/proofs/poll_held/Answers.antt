@@ -13,14 +13,14 @@ returns-then-not-has_state_size c =
     let none : length a.state.now ≡ state_size → ⊥ = search is_none in
     no_state_display _ _ _ (poll_other_length a.state.now a.bytes.now none) c.no_state.ensures
 
-pub unpack-c-requires : goal.unpack-c-requires
-unpack-c-requires c = search is_state
+pub unpack-held-requires : goal.unpack-held-requires
+unpack-held-requires c = search is_state
 
 pub keep-requires : goal.keep-requires
 keep-requires c = search is_state
 
 pub returns : goal.returns
 returns c =
-    let held = c.unpack-c.ensures in
+    let held = c.unpack-held.ensures in
     let shown = c.poll.ensures in
     rw (← held, ← shown) c.keep.ensures

@@ -13,8 +13,10 @@ unfolding is_matched_by
 returns-then-key_of c =
     let a = c.args in
     let keys : c.if-e-s.value ≡ (ltb a.e (entries_of a.s.now.bytes.now) && eqb (key_of a.s.now.bytes.now a.e) (key_of a.t.now.bytes.now a.f)) =
-        elim c.if-e-s.branch [ then-e-s w ↦ w.value-is ∙ rw (← a.s.now.laid.entries_are, lt-ltb _ _ w.if-e-s.true, w.key_of.ensures, w.key_of-then-e-s.ensures)
-        | else-e-s w ↦ w.value-is ∙ rw (← a.s.now.laid.entries_are, le-ltb _ _ w.if-e-s.false) ] in
+    elim c.if-e-s.branch [
+      | then-e-s w ↦ w.value-is ∙ rw (← a.s.now.laid.entries_are, lt-ltb _ _ w.if-e-s.true, w.key_of.ensures, w.key_of-then-e-s.ensures)
+      | else-e-s w ↦ w.value-is ∙ rw (← a.s.now.laid.entries_are, le-ltb _ _ w.if-e-s.false)
+    ] in
     rw (← keys, c.if-key_of.true, ← c.rank_of.ensures.0, ← c.rank_of-then-key_of.ensures.0)
 
 pub returns-else-key_of : goal.returns-else-key_of
@@ -22,6 +24,8 @@ unfolding is_matched_by
 returns-else-key_of c =
     let a = c.args in
     let keys : c.if-e-s.value ≡ (ltb a.e (entries_of a.s.now.bytes.now) && eqb (key_of a.s.now.bytes.now a.e) (key_of a.t.now.bytes.now a.f)) =
-        elim c.if-e-s.branch [ then-e-s w ↦ w.value-is ∙ rw (← a.s.now.laid.entries_are, lt-ltb _ _ w.if-e-s.true, w.key_of.ensures, w.key_of-then-e-s.ensures)
-        | else-e-s w ↦ w.value-is ∙ rw (← a.s.now.laid.entries_are, le-ltb _ _ w.if-e-s.false) ] in
+    elim c.if-e-s.branch [
+      | then-e-s w ↦ w.value-is ∙ rw (← a.s.now.laid.entries_are, lt-ltb _ _ w.if-e-s.true, w.key_of.ensures, w.key_of-then-e-s.ensures)
+      | else-e-s w ↦ w.value-is ∙ rw (← a.s.now.laid.entries_are, le-ltb _ _ w.if-e-s.false)
+    ] in
     rw (← keys, c.if-key_of.false)
