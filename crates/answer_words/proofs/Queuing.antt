@@ -1,19 +1,16 @@
 -- The queues that bytes are. Assumes nothing.
-use Prim.Native.Nat.{ℕ, ◌*◌, ◌/◌, ◌%◌, ◌≤◌, ◌<◌}
-use mathlib.Core.Bool.{Bool, true, false}
-use mathlib.Core.List.{List, []}
-use mathlib.Core.Path.{◌≡◌, refl, sym, ap, ◌∙◌}
-use native.Mathlib.Omega.{arith}
+use Rattle.std.proofs.Common.{◌≡◌, ℕ, zero, suc, ◌+◌, ◌*◌, ◌/◌, ◌%◌, ◌≤◌, ◌<◌, Bool, true, false, List, [], length, get_or, take, drop, leb, eqb, refl, sym, ap, ◌∙◌, arith}
+use Rattle.std.specs.Simd.{first_chunks}
+use Rattle.std.proofs.Math.Seq.{drop-drop, length-take-le}
 use borrow.Author.Tests.{leb-true, eqb-true, eq-eqb, ne_eqb, le-leb, lt-leb}
-use lib.Dec.{leb, eqb}
-use lib.ListN.{length, take}
-use lib.Seq.{get_or-take, length-take-le}
+use lib.Seq.{get_or-take}
 use Rattle.certificate.specs.Octets.{◌also◌}
 use Rattle.certificate.specs.Layout.{max_links}
 use Rattle.certificate.proofs.Tests.{also_both, both_also}
 use Rattle.octets.specs.Tables.{table_of}
 use Rattle.octets.proofs.FilledTables.{Filled, table_is, table_length, table_at}
 use Rattle.packed_state.specs.State.{quad_at}
+use Rattle.packed_state.proofs.Octets.{byte_in}
 use Rattle.answer_words.specs.Words.{queue_size, has_queues, queues_in}
 use Rattle.answer_words.specs.Laws.{QueuesAre}
 
@@ -49,6 +46,28 @@ module _ (b : List ℕ) where
       let fits : count ≤ length of = omega arith in
       let read : take count of ≡ table_of count quads = table_is count quads (take count of) (length-take-le count of fits) (λ k lt. get_or-take count of k 0 lt ∙ at k lt) in
       read ∙ ap (λ (n : ℕ). table_of n quads) e ∙ sym (some_queues whole most)
+
+-- four bytes, as the library cuts them and reads them
+chunk_at : (count l : ℕ) (b : List ℕ) → l < count → get_or (first_chunks 4 count b) l [] ≡ take 4 (drop (4 * l) b)
+chunk_at zero l b lt = absurd (omega arith)
+chunk_at (suc n) zero b lt = refl
+chunk_at (suc n) (suc l) b lt =
+    let next : 4 + 4 * l ≡ 4 * suc l = omega arith in
+    chunk_at n l (drop 4 b) (omega arith) ∙ rw (drop-drop, next)
+
+pub quad_is : (b quad : List ℕ) (count l x : ℕ) → l < count → quad ≡ get_or (first_chunks 4 count b) l []
+    → x ≡ get_or quad 0 0 * 16777216 + get_or quad 1 0 * 65536 + get_or quad 2 0 * 256 + get_or quad 3 0 → x ≡ quads b l
+unfolding quad_at
+quad_is b quad count l x lt is e =
+    let at = byte_in b quad (4 * l) 4 (is ∙ chunk_at count l b lt) in
+    omega (
+      arith,
+      e,
+      at 0 (4 * l) (omega arith) (omega arith),
+      at 1 (4 * l + 1) (omega arith) (omega arith),
+      at 2 (4 * l + 2) (omega arith) (omega arith),
+      at 3 (4 * l + 2 + 1) (omega arith) (omega arith),
+    )
 
 pub queues_are : QueuesAre
 queues_are b n most size =

@@ -1,12 +1,11 @@
 -- How an answer crosses to C: as one number of 64 bits, so that no slice is written for it. And how a query's queues cross: as bytes.
-use Rattle.std.specs.Prelude.{ℕ, ◌+◌, ◌*◌, ◌/◌, ◌%◌, ◌≤◌, ◌<◌, Bool, cond, List, [], ◌≡◌, length, take, leb, eqb}
+use Rattle.std.specs.Prelude.{ℕ, ◌+◌, ◌*◌, ◌/◌, ◌%◌, ◌<◌, Bool, cond, List, [], ◌≡◌, length, leb, eqb}
 use Rattle.certificate.specs.declared.Report.{Report}
 use Rattle.certificate.specs.Octets.{◌also◌}
 use Rattle.certificate.specs.Layout.{max_links}
 use Rattle.octets.specs.Tables.{table_of}
 use Rattle.held_state.specs.declared.Display.{Display}
 use Rattle.packed_state.specs.State.{quad_at}
-use Rattle.answer_words.specs.declared.Queues.{Queues}
 
 -- of a query or a poll: eight bits each for the number, A, the count, the signal and the green byte, from the lowest
 unfoldable pub display_word : Display → ℕ
@@ -66,8 +65,3 @@ has_queues b = eqb (length b % queue_size) 0 also leb (length b) (queue_size * m
 -- the queues that bytes are, each four bytes, high byte first; any other bytes are no queues, so their number is not that of the links (16)
 unfoldable pub queues_in : List ℕ → List ℕ
 queues_in b = cond (has_queues b) (table_of (length b / queue_size) (λ l. quad_at b (queue_size * l))) []
-
--- the first of a table are those queues
-pub record QueuesRead (b : List ℕ) (q : Queues) : Type 0 where
-  pub most : q.count ≤ max_links
-  pub queues : take q.count q.of ≡ queues_in b

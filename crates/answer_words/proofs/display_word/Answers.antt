@@ -1,5 +1,5 @@
 -- `answer_words::display_word` meets its contract.
-use native.Mathlib.Omega.{arith}
+use Rattle.std.proofs.Common.{arith}
 use Rattle.answer_words.specs.Words.{display_word}
 use Rattle.answer_words.proofs.display_word.Goals as goal
 
