@@ -5,6 +5,7 @@
 ghost use Rattle.held_state.specs.Held.{Displayed};
 ghost use Rattle.roadside.specs.Calls.{FreshCall, LoadCall, QueryCall, polled_for, PollCall};
 
+use certificate::limits;
 use held_state::Display;
 
 // The fresh state's bytes into a slice of their length; any other length gets 18, and no byte changes.
@@ -12,8 +13,7 @@ use held_state::Display;
 pub extern "C" fn roadside_fresh(state: &mut [u8]) -> u64
     ensures { FreshCall state.old state.new result }
 {
-    let report = held_state::fresh(state);
-    report.number as u64
+    u64::from(held_state::fresh(state).number)
 }
 
 // Loads any bytes into the state that the first slice holds; every run of an accepted certificate keeps the run claim.
@@ -29,10 +29,9 @@ pub extern "C" fn roadside_load(state: &mut [u8], bytes: &[u8]) -> u64
 pub extern "C" fn roadside_query(state: &mut [u8], queues: &[u8], scale: u32) -> u64
     ensures { QueryCall queues.now scale state.old state.new result }
 {
-    let read = answer_words::read_queues(queues);
-    let of = read.of;
-    let count = read.count;
-    answer_words::display_word(held_state::query(state, &of[0..count], scale))
+    let mut of = [0; limits::MAX_LINKS];
+    let queues = answer_words::read_queues(queues, &mut of);
+    answer_words::display_word(held_state::query(state, queues, scale))
 }
 
 // The poll of a state that is lent as bytes. Any other length of the state gets 18, and a refusal leaves its bytes as they were.
@@ -42,8 +41,8 @@ fn poll_held(state: &mut [u8], bytes: &[u8]) -> Display
     if !packed_state::has_state_size(state) {
         return held_state::no_state();
     }
-    let c = packed_state::unpack(state);
-    held_state::keep(polling::poll(c, bytes), state)
+    let held = packed_state::unpack(state);
+    held_state::keep(&polling::poll(held, bytes), state)
 }
 
 // What the state that is held shows for a poll, and the next state.
