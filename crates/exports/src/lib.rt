@@ -7,34 +7,37 @@ ghost use Rattle.network.specs.Conditions.{screening_of};
 ghost use Rattle.judging.specs.Verdict.{verdict_of};
 ghost use Rattle.judging.specs.Overflow.{overflows_of};
 ghost use Rattle.covering.specs.Comparing.{comparison_of, report_of};
+ghost use Rattle.verdict.specs.Entries.{verdict_told, overflows_in};
 ghost use Rattle.exports.specs.Exported.{report_numbers, verdict_numbers, comparison_numbers, Answers};
 ghost use Rattle.exports.specs.Calls.{ListCall, FreshCall, LoadCall, QueryCall, WriteCall};
 
 use certificate::Report;
 use comparing::answers;
 use covering::Comparison;
-use verdict::Verdict;
+use octets::refusals::{Refusal, Refused, refuse};
+use verdict::Accepted;
 
 // The four numbers of a report go to the front of `out`; the result is the report's number.
 fn put_report(report: Report, out: &mut [u32]) -> u32
     requires { 4 ≤ length out.old }
     ensures { (result ≡ report.number) × (out.new ≡ report_numbers report ++ drop 4 out.old) }
 {
-    let number = report.number as u32;
-    out[0] = number;
-    out[1] = report.a;
-    out[2] = report.b;
-    out[3] = report.count;
+    let number = u32::from(report.number);
+    out[..4].copy_from_slice(&[number, report.a, report.b, report.count]);
     number
 }
 
 // A verdict's report and the number of entries that may turn arrivals away go to the front of `out`; the result is the report's number.
-fn put_verdict(verdict: Verdict, out: &mut [u32]) -> u32
+fn put_verdict(judged: Result<Accepted, Refused>, out: &mut [u32]) -> u32
     requires { 5 ≤ length out.old }
-    ensures { (result ≡ verdict.report.number) × (out.new ≡ verdict_numbers verdict.report verdict.overflows ++ drop 5 out.old) }
+    ensures { (result ≡ (verdict_told judged).number) × (out.new ≡ verdict_numbers (verdict_told judged) (overflows_in judged) ++ drop 5 out.old) }
 {
-    let number = put_report(verdict.report, out);
-    out[4] = verdict.overflows;
+    let (report, overflows) = match judged {
+        Ok(accepted) => (accepted.into(), accepted.overflows),
+        Err(refused) => (refused.into(), 0),
+    };
+    let number = put_report(report, out);
+    out[4] = overflows;
     number
 }
 
@@ -54,8 +57,8 @@ fn put_shown(report: Report, signal: u8, green: u8, out: &mut [u32]) -> u32
     ensures { (result ≡ report.number) × (out.new ≡ (report_numbers report ++ (signal ∷ green ∷ [])) ++ drop 6 out.old) }
 {
     let number = put_report(report, out);
-    out[4] = signal as u32;
-    out[5] = green as u32;
+    out[4] = u32::from(signal);
+    out[5] = u32::from(green);
     number
 }
 
@@ -67,8 +70,10 @@ pub extern "C" fn dergvost_screen(s: &[u8], out: &mut [u32]) -> u32
     if out.len() < 4 {
         return 255;
     }
-    let found = screening::screen(s);
-    put_report(found.report, out)
+    match screening::screen(s) {
+        Ok(_) => put_report(octets::accept(), out),
+        Err(refused) => put_report(refused.into(), out),
+    }
 }
 
 // The verdict of any bytes, with the number of entries that may turn arrivals away.
@@ -79,8 +84,7 @@ pub extern "C" fn dergvost_judge(s: &[u8], out: &mut [u32]) -> u32
     if out.len() < 5 {
         return 255;
     }
-    let judged = verdict::judge(s);
-    put_verdict(judged, out)
+    put_verdict(verdict::judge(s), out)
 }
 
 // Which of any two byte strings is the better certificate, or the refusal of the first that is not accepted.
@@ -91,8 +95,7 @@ pub extern "C" fn dergvost_compare(s: &[u8], t: &[u8], out: &mut [u32]) -> u32
     if out.len() < 5 {
         return 255;
     }
-    let found = comparing::compare(s, t);
-    put_comparison(found, out)
+    put_comparison(comparing::compare(s, t), out)
 }
 
 // The listing of any bytes into the front of a buffer.
@@ -112,8 +115,7 @@ pub extern "C" fn dergvost_list(s: &[u8], buffer: &mut [u8], out: &mut [u32]) ->
 pub extern "C" fn dergvost_fresh(state: &mut [u8]) -> u32
     ensures { FreshCall state.old state.new result }
 {
-    let report = held_state::fresh(state);
-    report.number as u32
+    u32::from(held_state::fresh(state).number)
 }
 
 // Loads any bytes into the state that the first slice holds; any other length gets 18. A refusal leaves its bytes as they were.
@@ -124,8 +126,7 @@ pub extern "C" fn dergvost_load(state: &mut [u8], s: &[u8], out: &mut [u32]) -> 
     if out.len() < 5 {
         return 255;
     }
-    let loaded = held_state::load(state, s);
-    put_verdict(loaded, out)
+    put_verdict(held_state::load(state, s), out)
 }
 
 // What the state that is held shows for queues over a scale, and the next state. A refusal leaves its bytes as they were.
@@ -159,9 +160,8 @@ pub extern "C" fn dergvost_write(
         return 255;
     }
     if !packed_state::has_state_size(state) {
-        return put_report(octets::refuse(18, 0), out);
+        return put_report(refuse(Refusal::NoCertificate, 0).into(), out);
     }
     let held = packed_state::unpack(state);
-    let report = held.write(buffer, start);
-    put_report(report, out)
+    put_report(held.write(buffer, start), out)
 }

@@ -1,9 +1,0 @@
--- `exports::dergvost_fresh` meets its contract: the number, and the bytes afterwards.
-use mathlib.Core.Path.{ap}
-use Rattle.certificate.specs.declared.Report.{Report}
-use Rattle.exports.proofs.dergvost_fresh.Goals as goal
-
-pub returns : goal.returns
-returns c =
-    let fresh = c.fresh-report.ensures in
-    (ap (λ (r : Report). r.number) fresh.report, fresh.bytes)
