@@ -1,5 +1,5 @@
 -- How an answer crosses to C: as one number of 64 bits, so that no slice is written for it. And how a query's queues cross: as bytes.
-use Rattle.std.specs.Prelude.{ℕ, ◌+◌, ◌*◌, ◌/◌, ◌%◌, ◌≤◌, ◌<◌, Bool, cond, List, [], ◌≡◌, length, take, leb, eqb}
+use Rattle.std.specs.Prelude.{ℕ, ◌+◌, ◌*◌, ◌/◌, ◌%◌, ◌<◌, Bool, cond, List, [], ◌≡◌, length, leb, eqb}
 use Rattle.certificate.specs.declared.Report.{Report}
 use Rattle.certificate.specs.Octets.{◌also◌}
 use Rattle.certificate.specs.Layout.{max_links}

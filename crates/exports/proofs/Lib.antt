@@ -1,3 +1,2 @@
--- What stands at the front of a lent slice, and how a call's contract follows.
-pub mod Front
+-- How a call's contract follows from what the call did.
 pub mod Answering
