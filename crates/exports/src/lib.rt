@@ -14,6 +14,7 @@ ghost use Rattle.exports.specs.Calls.{ListCall, FreshCall, LoadCall, QueryCall, 
 use certificate::Report;
 use comparing::answers;
 use covering::Comparison;
+use held_state::Display;
 use octets::refusals::{Refusal, Refused, refuse};
 use verdict::Accepted;
 
@@ -52,13 +53,13 @@ fn put_comparison(found: Comparison, out: &mut [u32]) -> u32
 }
 
 // A query's report, signal and green byte go to the front of `out`; the result is the report's number.
-fn put_shown(report: Report, signal: u8, green: u8, out: &mut [u32]) -> u32
+fn put_shown(shown: Display, out: &mut [u32]) -> u32
     requires { 6 ≤ length out.old }
-    ensures { (result ≡ report.number) × (out.new ≡ (report_numbers report ++ (signal ∷ green ∷ [])) ++ drop 6 out.old) }
+    ensures { (result ≡ shown.report.number) × (out.new ≡ (report_numbers shown.report ++ (shown.signal ∷ shown.green ∷ [])) ++ drop 6 out.old) }
 {
-    let number = put_report(report, out);
-    out[4] = u32::from(signal);
-    out[5] = u32::from(green);
+    let number = put_report(shown.report, out);
+    out[4] = u32::from(shown.signal);
+    out[5] = u32::from(shown.green);
     number
 }
 
@@ -142,8 +143,7 @@ pub extern "C" fn dergvost_query(
     if out.len() < 6 {
         return 255;
     }
-    let shown = held_state::query(state, queues, scale);
-    put_shown(shown.report, shown.signal, shown.green, out)
+    put_shown(held_state::query(state, queues, scale), out)
 }
 
 // Writes the certificate that is held into a buffer from start on.
