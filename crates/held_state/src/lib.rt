@@ -3,11 +3,14 @@
 
 ghost use Rattle.std.specs.Prelude.{◌≡◌, length};
 ghost use Rattle.certificate.specs.Checks.{refusal};
+ghost use Rattle.asking.specs.FoundEntries.{answer_of};
+ghost use Rattle.controller.specs.Parts.{shown_by};
 ghost use Rattle.controller.specs.State.{fresh_state};
 ghost use Rattle.controller.specs.Query.{refused};
-ghost use Rattle.packed_state.specs.State.{state_size};
+ghost use Rattle.packed_state.specs.State.{state_size, held_in};
 ghost use Rattle.held_state.specs.Held.{shown_for, display_of, HeldFresh, HeldLoad, Displayed};
 
+use asking::Found;
 use certificate::Report;
 use controller::{Controller, Shown};
 use octets::refusals::{Refusal, Refused, refuse, require};
@@ -49,6 +52,29 @@ pub fn keep(shown: &Shown, state: &mut [u8]) -> Display
     }
 }
 
+// What is found is displayed, and the lent state passes to the mode found; a refusal is displayed, and the state stays as it was. Nothing but the
+// mode is written: copies of the state took most of the time of a query.
+pub fn show(outcome: Result<Found, Refused>, state: &mut [u8]) -> Display
+    requires { length state.old ≡ state_size }
+    ensures { Displayed (shown_by (held_in state.old) (answer_of (held_in state.old).mode outcome)) state.old state.new result }
+{
+    match outcome {
+        Ok(found) => {
+            packed_state::pass(found.mode, state);
+            Display {
+                report: octets::accept(),
+                signal: found.signal,
+                green: found.green,
+            }
+        }
+        Err(refused) => Display {
+            report: refused.into(),
+            signal: 0,
+            green: 0,
+        },
+    }
+}
+
 // Makes the slice the fresh state. The report crosses to C.
 pub fn fresh(state: &mut [u8]) -> Report
     ensures { HeldFresh state.old state.new result }
@@ -82,5 +108,7 @@ pub fn query(state: &mut [u8], queues: &[u32], scale: u32) -> Display
     if !packed_state::has_state_size(state) {
         return no_state();
     }
-    keep(&packed_state::unpack(state).query(queues, scale), state)
+    let held = packed_state::unpack(state);
+    let outcome = asking::ask(&held.bytes, held.len, held.mode, queues, scale);
+    show(outcome, state)
 }

@@ -1,20 +1,21 @@
 -- The copies between a state and its bytes, what a slice holds by its length, and a lent state after a call. Assumes nothing.
-use Rattle.std.proofs.Common.{◌≡◌, ℕ, List, [], ◌∷◌, ◌++◌, Bool, true, false, w64, length, take, drop, refl, sym, ap, ◌∙◌, arith, length-drop}
+use Rattle.std.proofs.Common.{◌≡◌, ◌+◌, ◌<◌, ltb, ℕ, List, [], ◌∷◌, ◌++◌, Bool, true, false, w64, length, take, drop, get_or, refl, sym, ap, ◌∙◌, arith, length-drop}
 use Rattle.std.proofs.Math.ListN.{set}
 use Rattle.std.proofs.Math.Seq.{drop_at}
-use Rattle.std.proofs.lemmas.List.{take_at, set-append_right}
+use Rattle.std.proofs.lemmas.List.{take_at, take-append-drop, length-take, get_or_past, set-append_right}
+use Rattle.std.proofs.lemmas.Nat.{be_bytes_8}
 use mathlib.Core.Bool.{not}
-use borrow.Author.Tests.{eq-eqb, ne_eqb, eqb-true, eqb-false}
+use borrow.Author.Tests.{eq-eqb, ne_eqb, eqb-true, eqb-false, ltb-true, ltb-false}
 use Rattle.certificate.specs.Layout.{max_length}
 use Rattle.certificate.specs.Octets.{byte_at}
 use Rattle.certificate.specs.Checks.{refusal, fine, need}
 use Rattle.controller.specs.declared.Controller.{Controller}
-use Rattle.controller.specs.State.{fresh_state}
+use Rattle.controller.specs.State.{fresh_state, in_mode}
 use Rattle.octets.proofs.Cases.{not_yes, not_no}
 use Rattle.octets.proofs.Outcomes.{need_holds}
 use Rattle.std.specs.Int.{to_be_bytes}
-use Rattle.packed_state.proofs.Octets.{tail_is}
-use Rattle.packed_state.specs.State.{length_size, state_mode_at, state_size, has_state_size, eight_at, state_of, held_in, state_bytes, bytes_after}
+use Rattle.packed_state.proofs.Octets.{tail_is, eight_is, byte_in}
+use Rattle.packed_state.specs.State.{length_size, state_tail_size, state_mode_at, state_size, has_state_size, eight_at, state_of, held_in, state_tail, state_bytes, bytes_after}
 
 -- one element is set
 only : (l : List ℕ) (x : ℕ) → length l ≡ 1 → set l 0 x ≡ x ∷ []
@@ -68,3 +69,45 @@ refusal_keeps number next state bad = rw (ne_eqb number 0 bad)
 pub success_passes : (number : ℕ) (next : Controller) (state after : List ℕ) → number ≡ 0 → after ≡ state_bytes next → after ≡ bytes_after number next state
 unfolding bytes_after
 success_passes number next state after z e = rw (eq-eqb number 0 z) e
+
+-- the mode alone, put over a state's bytes: the array stays, and so does the length, whose bytes are those that the library writes
+module _ (s : List ℕ) (mode : ℕ) (h : length s ≡ state_size) (small : (i : ℕ) → get_or s i 0 < 256) where
+  abbrev rest : List ℕ
+  rest = drop max_length s
+
+  abbrev len : List ℕ
+  len = take length_size rest
+
+  long : length rest ≡ state_tail_size
+  long = omega (arith, length-drop max_length s, h)
+
+  sized : length len ≡ length_size
+  sized = omega (arith, length-take length_size rest, long)
+
+  last : length (drop length_size rest) ≡ 1
+  last = omega (arith, length-drop length_size rest, long)
+
+  bytes_small : (i : ℕ) → get_or len i 0 < 256
+  bytes_small i = go (ltb i length_size) refl
+    where
+      go : (b : Bool) → ltb i length_size ≡ b → get_or len i 0 < 256
+      go true lt = rw (byte_in s len max_length length_size refl i (max_length + i) (ltb-true _ _ lt) refl) (small (max_length + i))
+      go false more = rw (get_or_past len i 0 (omega (arith, sized, ltb-false _ _ more))) (omega arith)
+
+  len_stays : to_be_bytes w64 (eight_at s max_length) ≡ len
+  len_stays = be_bytes_8 len _ sized bytes_small (sym (eight_is s rest len max_length _ refl refl refl))
+
+  pub passed : set s state_mode_at mode ≡ state_bytes (in_mode (held_in s) mode)
+  unfolding state_bytes state_of
+  passed =
+      let front : length (take max_length s) ≡ max_length = omega (arith, length-take max_length s, h) in
+      let tail : set rest length_size mode ≡ state_tail (eight_at s max_length) mode =
+      ap (λ (l : List ℕ). set l length_size mode) (sym (take-append-drop length_size rest))
+      ∙ set-append_right len (drop length_size rest) length_size length_size mode sized (omega arith)
+      ∙ ap (λ (l : List ℕ). len ++ l) (only _ mode last)
+      ∙ ap (λ (l : List ℕ). l ++ (mode ∷ [])) (sym len_stays)
+      ∙ sym (tail_is _ mode) in
+      rw (right_length s h)
+      (ap (λ (l : List ℕ). set l state_mode_at mode) (sym (take-append-drop max_length s))
+      ∙ set-append_right (take max_length s) rest max_length state_mode_at mode front (omega arith)
+      ∙ ap (λ (l : List ℕ). take max_length s ++ l) tail)

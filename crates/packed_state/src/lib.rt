@@ -2,6 +2,7 @@
 #![tactic(auto)]
 
 ghost use Rattle.std.specs.Prelude.{◌≡◌, length};
+ghost use Rattle.controller.specs.State.{in_mode};
 ghost use Rattle.packed_state.specs.State.{state_size, has_state_size, held_in, state_bytes};
 
 use controller::Controller;
@@ -41,4 +42,12 @@ pub fn pack(c: &Controller, state: &mut [u8])
     state[..Controller::SIZE].copy_from_slice(&c.bytes);
     state[Controller::SIZE..MODE_AT].copy_from_slice(&c.len.to_be_bytes());
     state[MODE_AT] = c.mode;
+}
+
+// The state that a lent slice holds passes to a mode: no other byte of it changes.
+pub fn pass(mode: u8, state: &mut [u8])
+    requires { length state.old ≡ state_size }
+    ensures { state.new ≡ state_bytes (in_mode (held_in state.old) mode) }
+{
+    state[MODE_AT] = mode;
 }

@@ -42,7 +42,8 @@ fn poll_held(state: &mut [u8], bytes: &[u8]) -> Display
         return held_state::no_state();
     }
     let held = packed_state::unpack(state);
-    held_state::keep(&polling::poll(held, bytes), state)
+    let outcome = polling::ask(&held.bytes, held.len, held.mode, bytes);
+    held_state::show(outcome, state)
 }
 
 // What the state that is held shows for a poll, and the next state.
