@@ -10,6 +10,14 @@ use certificate::limits;
 use octets::refusals;
 use octets::refusals::{Refusal, Refused};
 
+// Where the record of box b stands, behind where those of boxes begin.
+pub fn arrival_at(start: usize, links: usize, b: usize) -> usize
+    requires { (b < 256) × (links ≤ max_links) × (start ≤ start_bound) }
+    ensures { (result ≡ start + arrival_size links * b) × (result ≤ 120000) }
+{
+    start + (2 + 4 * links) * b
+}
+
 // The records of arrival boxes of a certificate: where they begin, and of how many links each is.
 #[derive(Clone, Copy)]
 pub struct Arrivals<'a> {
@@ -28,7 +36,7 @@ impl<'a> Arrivals<'a> {
         requires { b < 256 }
         ensures { (result ≡ arrival_at self.now.bytes.now b) × (result ≤ 120000) }
     {
-        self.start + self.record_size() * b
+        arrival_at(self.start, self.links, b)
     }
 
     fn record_size(&self) -> usize

@@ -7,6 +7,14 @@ ghost use Rattle.octets.specs.Bounds.{start_bound};
 
 use certificate::{BenchEntry, CabinetEntry, limits};
 
+// Where the record of entry e stands, behind where those of entries begin.
+pub fn entry_at(start: usize, e: usize) -> usize
+    requires { (e < 65536) × (start ≤ start_bound) }
+    ensures { (result ≡ start + entry_size * e) × (result ≤ 700000) }
+{
+    start + limits::ENTRY_SIZE * e
+}
+
 // The records of entries of a certificate: where they begin.
 #[derive(Clone, Copy)]
 pub struct Entries<'a> {
@@ -22,7 +30,7 @@ impl Entries<'_> {
         requires { e < 65536 }
         ensures { (result ≡ entry_at self.now.bytes.now e) × (result ≤ 700000) }
     {
-        self.start + limits::ENTRY_SIZE * e
+        entry_at(self.start, e)
     }
 
     // The byte and the two-byte number at offset k of the record of entry e.

@@ -6,6 +6,14 @@ ghost use Rattle.octets.specs.Bounds.{start_bound};
 
 use certificate::limits;
 
+// Where the record of mode m stands, behind where those of modes begin.
+pub fn mode_at(start: usize, size: usize, m: usize) -> usize
+    requires { (m < 256) × (start ≤ start_bound) × (size ≤ size_bound) }
+    ensures { (result ≡ start + size * m) × (result ≤ 300000) }
+{
+    start + size * m
+}
+
 // The records of modes of a certificate: where they begin, and the size of each.
 #[derive(Clone, Copy)]
 pub struct Modes<'a> {
@@ -46,7 +54,7 @@ impl<'a> Modes<'a> {
         requires { m < 256 }
         ensures { (result ≡ mode_at self.now.bytes.now m) × (result ≤ 300000) }
     {
-        self.start + self.size * m
+        mode_at(self.start, self.size, m)
     }
 
     // The signal that mode m remembers, where modes do.

@@ -4,14 +4,14 @@ use mathlib.Core.Bool.{Bool, true, false, not}
 use mathlib.Core.List.{List}
 use mathlib.Core.Path.{◌≡◌, sym, ◌∙◌}
 use mathlib.Core.Logic.{⊎_elim}
-use borrow.Author.Tests.{le-leb, not-true, not-false}
+use borrow.Author.Tests.{lt-ltb, le-ltb, le-leb, lt-leb, eq-eqb, ne_eqb, not-true, not-false}
 use lib.ListN.{length}
 use Rattle.certificate.specs.declared.Report.{Report}
 use Rattle.certificate.specs.Loops.{every_from}
-use Rattle.certificate.specs.Checks.{or_else, opened}
+use Rattle.certificate.specs.Checks.{need, or_else, opened}
 use Rattle.certificate.proofs.Says.{opened_says}
 use Rattle.certificate.proofs.Loops.{every_turn, every_end}
-use Rattle.certificate.proofs.Tests.{or_next, or_stop, passes}
+use Rattle.certificate.proofs.Tests.{need_pass, need_fail, or_next, or_stop, passes}
 
 -- a test's outcome that has a name, r
 pub by_yes : (r b : Bool) → r ≡ b → r ≡ true → b ≡ true
@@ -26,6 +26,21 @@ not_yes r b p q = sym p ∙ not-true r q
 
 pub not_no : (r b : Bool) → r ≡ b → not r ≡ false → b ≡ true
 not_no r b p q = sym p ∙ not-false r q
+
+-- a report of a refusal that a call made, and what follows a test that passes
+pub pass : (b : Bool) (bad next r : Report) → b ≡ true → r ≡ next → r ≡ need b bad next
+pass b bad next r e p = p ∙ sym (need_pass b bad next e)
+
+pub fail : (b : Bool) (bad next r : Report) → b ≡ false → r ≡ bad → r ≡ need b bad next
+fail b bad next r e p = p ∙ sym (need_fail b bad next e)
+
+pub first : (f g h : Report) → f ≡ g → (f.number ≡ 0 → ⊥) → f ≡ or_else g h
+first f g h e n = e ∙ sym (or_stop g h (λ z. n (rw e z)))
+
+pub second : (f g h r : Report) → f ≡ g → f.number ≡ 0 → r ≡ h → r ≡ or_else g h
+second f g h r e n p = p ∙ sym (or_next g h (rw (← e) n))
+
+pub ruleset cases = (lt-ltb, le-ltb, le-leb, lt-leb, eq-eqb, ne_eqb, by_yes, by_no, not_yes, not_no, pass, fail, first, second)
 
 -- a record whose opening passes is there whole
 pub opened-whole : (s : List ℕ) (o : ℕ) (mark : Bool) (size : ℕ) {f : Report} → 2 ≤ size → f ≡ opened s o mark size → f.number ≡ 0 → o + size ≤ length s

@@ -1,9 +1,9 @@
-// Bytes and marks at an offset, the report of success, and refusals.
+// Bytes and marks at an offset, reports, and refusals.
 #![tactic(auto)]
 
 ghost use Rattle.std.specs.Prelude.{◌≡◌, ◌+◌, ◌<◌, ◌≤◌, length};
 ghost use Rattle.certificate.specs.Octets.{byte_at, u16_at};
-ghost use Rattle.certificate.specs.Checks.{report_with, fine, marked};
+ghost use Rattle.certificate.specs.Checks.{report_with, refusal, fine, need, or_else, marked};
 ghost use Rattle.octets.specs.Bounds.{offset_bound};
 
 pub mod filling;
@@ -41,17 +41,25 @@ pub fn u16_within(s: &[u8], at: usize) -> usize
     byte_within(s, at) * 256 + byte_within(s, at + 1)
 }
 
-// The report of success, with place A.
+// A report by its number, places A and B and count. Where a function refuses by its cause, `refusals` has the same.
+pub fn report(number: u8, a: usize, b: usize, count: u32) -> Report
+    requires { (a ≤ offset_bound) × (b ≤ offset_bound) }
+    ensures { result ≡ report_with number a b count }
+{
+    Report {
+        number,
+        a: a as u32,
+        b: b as u32,
+        count,
+    }
+}
+
+// That of success, with place A.
 pub fn success(a: usize) -> Report
     requires { a ≤ offset_bound }
     ensures { result ≡ report_with 0 a 0 0 }
 {
-    Report {
-        number: 0,
-        a: a as u32,
-        b: 0,
-        count: 0,
-    }
+    report(0, a, 0, 0)
 }
 
 // The same with no place.
@@ -59,6 +67,14 @@ pub fn accept() -> Report
     ensures { result ≡ fine }
 {
     success(0)
+}
+
+// That of a refusal, with place A.
+pub fn refuse(number: u8, a: usize) -> Report
+    requires { a ≤ offset_bound }
+    ensures { result ≡ refusal number a }
+{
+    report(number, a, 0, 0)
 }
 
 // The two-byte mark at o, which is known to lie within, is m and k.
@@ -78,4 +94,28 @@ pub fn marked_as(s: &[u8], o: usize, m: usize, k: usize) -> bool
         return false;
     }
     marked_within(s, o, m, k)
+}
+
+// The first report where it refuses, else the second.
+pub fn or_else(first: Report, second: Report) -> Report
+    ensures { result ≡ or_else first second }
+{
+    if first.number != 0 {
+        return first;
+    }
+    second
+}
+
+// A record's report: its opening where that refuses, else the refusal of that number where its fields are not as they must be.
+pub fn record_result(opening: Report, ok: bool, number: u8, o: usize) -> Report
+    requires { o ≤ offset_bound }
+    ensures { result ≡ or_else opening (need ok (refusal number o) fine) }
+{
+    if opening.number != 0 {
+        return opening;
+    }
+    if !ok {
+        return refuse(number, o);
+    }
+    accept()
 }

@@ -10,6 +10,14 @@ ghost use Rattle.octets.specs.Refusals.{told};
 use certificate::limits;
 use octets::refusals::{self, Refusal, Refused};
 
+// Where the record of signal g stands, behind where those of signals begin.
+pub fn signal_at(start: usize, g: usize) -> usize
+    requires { (g < 256) × (start ≤ start_bound) }
+    ensures { (result ≡ start + signal_size * g) × (result ≤ 101000) }
+{
+    start + limits::SIGNAL_SIZE * g
+}
+
 // The records of signals of a certificate: where they begin.
 #[derive(Clone, Copy)]
 pub struct Signals<'a> {
@@ -25,7 +33,7 @@ impl<'a> Signals<'a> {
         requires { g < 256 }
         ensures { (result ≡ signal_at self.now.bytes.now g) × (result ≤ 101000) }
     {
-        self.start + limits::SIGNAL_SIZE * g
+        signal_at(self.start, g)
     }
 
     // The byte of its green links.

@@ -12,6 +12,14 @@ use certificate::limits;
 use octets::refusals::{self, Refusal, Refused};
 use road_records::links;
 
+// Where the record of turn t stands, behind where those of turns begin.
+pub fn turn_at(start: usize, t: usize) -> usize
+    requires { (t < 256) × (start ≤ start_bound) }
+    ensures { (result ≡ start + turn_size * t) × (result ≤ 102000) }
+{
+    start + limits::TURN_SIZE * t
+}
+
 // The records of turns of a certificate: where they begin.
 #[derive(Clone, Copy)]
 pub struct Turns<'a> {
@@ -27,10 +35,17 @@ impl<'a> Turns<'a> {
         requires { t < 256 }
         ensures { (result ≡ turn_at self.now.bytes.now t) × (result ≤ 102000) }
     {
-        self.start + limits::TURN_SIZE * t
+        turn_at(self.start, t)
     }
 
-    // The byte at offset k of the record of turn t, which is there whole: no test.
+    // The byte at offset k of the record of turn t; and where the turn is there whole, with no test.
+    fn byte_at(&self, t: usize, k: usize) -> usize
+        requires { (t < 256) × (k < 256) }
+        ensures { (result ≡ byte_at self.now.bytes.now (turn_at self.now.bytes.now t + k)) × (result < 256) }
+    {
+        octets::byte_at(self.bytes, self.record_at(t) + k)
+    }
+
     fn byte_within(&self, t: usize, k: usize) -> usize
         requires { (t < 256) × (k < turn_size) × TurnWhole self.now.bytes.now t }
         ensures { (result ≡ byte_at self.now.bytes.now (turn_at self.now.bytes.now t + k)) × (result < 256) }
@@ -38,7 +53,29 @@ impl<'a> Turns<'a> {
         octets::byte_within(self.bytes, self.record_at(t) + k)
     }
 
-    // The fields of a turn that is there whole.
+    // The fields of a turn, which may be cut short: a byte past the end reads as 0.
+    pub fn from_of(&self, t: usize) -> usize
+        requires { t < 256 }
+        ensures { (result ≡ from_of self.now.bytes.now t) × (result < 256) }
+    {
+        self.byte_at(t, 2)
+    }
+
+    pub fn to_of(&self, t: usize) -> usize
+        requires { t < 256 }
+        ensures { (result ≡ to_of self.now.bytes.now t) × (result < 256) }
+    {
+        self.byte_at(t, 3)
+    }
+
+    pub fn pull_of(&self, t: usize) -> usize
+        requires { t < 256 }
+        ensures { (result ≡ pull_of self.now.bytes.now t) × (result < 65536) }
+    {
+        octets::u16_at(self.bytes, self.record_at(t) + 5)
+    }
+
+    // The same fields of a turn that is there whole: no test.
     pub fn from_within(&self, t: usize) -> usize
         requires { (t < 256) × TurnWhole self.now.bytes.now t }
         ensures { (result ≡ from_of self.now.bytes.now t) × (result < 256) }
