@@ -11,11 +11,11 @@
 //   M n more bytes             comparison: a certificate of n bytes, and one of `more` bytes behind it
 #![tactic(auto)]
 
-ghost use Rattle.std.specs.Prelude.{◌≡◌, ◌≤◌, IfOk, IfSome, vec_len};
+ghost use Rattle.std.specs.Prelude.{◌≡◌, ◌≤◌, IfOk, IfSome, length};
+ghost use Rattle.std.specs.Io.KnownBytes.{Consumes};
 ghost use Rattle.case_input.specs.Limits.{IsWithinLimits, HasCallWithinLimits};
 
-use std::alloc::Global;
-use std::io::{self, Read};
+use std::io::{self, ErrorKind, Read};
 
 // The most bytes and queues that a call has, and the largest buffer that it is lent.
 pub const MOST_BYTES: usize = 40960;
@@ -24,38 +24,45 @@ pub const MOST_QUEUES: usize = 64;
 
 pub const MOST_LENT: usize = 49152;
 
+// What a reader lends: the bytes and queues of a call lie in it.
+#[derive(Debug, Drop)]
+pub struct Room {
+    pub bytes: [u8; MOST_BYTES],
+    pub queues: [u32; MOST_QUEUES],
+}
+
 // One call as the stream has it, with what stands behind its mark. An enum has no ghost field, so that its parts are within the limits
 // stands at each function that reads one.
-#[derive(Debug, PartialEq, Eq, Drop)]
-pub enum Call {
+#[derive(Clone, Copy, Debug, PartialEq, Eq)]
+pub enum Call<'a> {
     Fresh,
     State {
-        bytes: Vec<u8>,
+        bytes: &'a [u8],
         length: usize,
         mode: u8,
     },
-    Load(Vec<u8>),
+    Load(&'a [u8]),
     Query {
         scale: u32,
-        queues: Vec<u32>,
+        queues: &'a [u32],
     },
-    Poll(Vec<u8>),
+    Poll(&'a [u8]),
     Write {
         size: usize,
         start: usize,
     },
-    List(Vec<u8>),
+    List(&'a [u8]),
     Compare {
-        first: Vec<u8>,
-        second: Vec<u8>,
+        first: &'a [u8],
+        second: &'a [u8],
     },
 }
 
 // What stands next in the stream.
-#[derive(Debug, PartialEq, Eq, Drop)]
-pub enum Item {
+#[derive(Clone, Copy, Debug, PartialEq, Eq)]
+pub enum Item<'a> {
     Case,
-    Call(Call),
+    Call(Call<'a>),
     End,
 }
 
@@ -84,30 +91,45 @@ fn place(input: &mut impl Read) -> io::Result<usize> {
 }
 
 // The next n bytes, where the input has them all.
-fn exactly(alloc: Global, input: &mut impl Read, n: usize) -> io::Result<Option<Vec<u8>>>
-    ensures { IfOk result (λ read. IfSome read (λ bytes. vec_len bytes ≡ n)) }
+fn exactly<'a, R: Read>(
+    input: &mut R,
+    room: &'a mut [u8; MOST_BYTES],
+    n: usize,
+) -> io::Result<Option<&'a [u8]>>
+    requires { n ≤ MOST_BYTES }
+    ensures { IfOk result (λ read. IfSome read (λ bytes.
+        (length bytes.now ≡ n) × Consumes (R.remaining input.old) (R.remaining input.new) bytes.now)) }
 {
-    let mut bytes = Vec::with_capacity(alloc, n)?;
-    input.take(n as u64).read_to_end(&mut bytes)?;
-    Ok((bytes.len() == n).then_some(bytes))
+    let bytes = &mut room[..n];
+    match input.read_exact(bytes) {
+        Ok(()) => Ok(Some(bytes)),
+        Err(e) if e.kind() == ErrorKind::UnexpectedEof => Ok(None),
+        Err(e) => Err(e),
+    }
 }
 
 // A count and so many bytes.
-fn counted(alloc: Global, input: &mut impl Read) -> io::Result<Option<Vec<u8>>>
-    ensures { IfOk result (λ read. IfSome read (λ bytes. vec_len bytes ≤ MOST_BYTES)) }
+fn counted<'a>(
+    input: &mut impl Read,
+    room: &'a mut [u8; MOST_BYTES],
+) -> io::Result<Option<&'a [u8]>>
+    ensures { IfOk result (λ read. IfSome read (λ bytes. length bytes.now ≤ MOST_BYTES)) }
 {
     let n = count(input)?;
     if n > MOST_BYTES {
         return Ok(None);
     }
-    exactly(alloc, input, n)
+    exactly(input, room, n)
 }
 
 // S: bytes, a length, a mode.
-fn read_state(alloc: Global, input: &mut impl Read) -> io::Result<Option<Call>>
+fn read_state<'a>(
+    input: &mut impl Read,
+    room: &'a mut [u8; MOST_BYTES],
+) -> io::Result<Option<Call<'a>>>
     ensures { IfOk result (λ read. IfSome read IsWithinLimits) }
 {
-    let stored = counted(alloc, input)?;
+    let stored = counted(input, room)?;
     let length = place(input)?;
     let mode = octet(input)?;
     Ok(stored.map(|bytes| Call::State {
@@ -118,7 +140,10 @@ fn read_state(alloc: Global, input: &mut impl Read) -> io::Result<Option<Call>>
 }
 
 // Q: a scale, a count and so many queues.
-fn read_query(alloc: Global, input: &mut impl Read) -> io::Result<Option<Call>>
+fn read_query<'a>(
+    input: &mut impl Read,
+    room: &'a mut [u32; MOST_QUEUES],
+) -> io::Result<Option<Call<'a>>>
     ensures { IfOk result (λ read. IfSome read IsWithinLimits) }
 {
     let scale = u32::from_be_bytes(octets(input)?);
@@ -126,15 +151,15 @@ fn read_query(alloc: Global, input: &mut impl Read) -> io::Result<Option<Call>>
     if n > MOST_QUEUES {
         return Ok(None);
     }
-    let mut queues = vec![in alloc; 0; n]?;
-    for queue in &mut queues {
+    let queues = &mut room[..n];
+    for queue in &mut *queues {
         *queue = u32::from_be_bytes(octets(input)?);
     }
     Ok(Some(Call::Query { scale, queues }))
 }
 
 // W: the size of the buffer, and a start.
-fn read_write(input: &mut impl Read) -> io::Result<Option<Call>>
+fn read_write<'a>(input: &mut impl Read) -> io::Result<Option<Call<'a>>>
     ensures { IfOk result (λ read. IfSome read IsWithinLimits) }
 {
     let size = count(input)?;
@@ -143,7 +168,10 @@ fn read_write(input: &mut impl Read) -> io::Result<Option<Call>>
 }
 
 // M: two counts and so many bytes.
-fn read_comparison(alloc: Global, input: &mut impl Read) -> io::Result<Option<Call>>
+fn read_comparison<'a>(
+    input: &mut impl Read,
+    room: &'a mut [u8; MOST_BYTES],
+) -> io::Result<Option<Call<'a>>>
     ensures { IfOk result (λ read. IfSome read IsWithinLimits) }
 {
     let n = count(input)?;
@@ -151,38 +179,42 @@ fn read_comparison(alloc: Global, input: &mut impl Read) -> io::Result<Option<Ca
     if n > MOST_BYTES || more > MOST_BYTES - n {
         return Ok(None);
     }
-    let Some(first) = exactly(alloc, input, n)? else {
+    let Some(both) = exactly(input, room, n + more)? else {
         return Ok(None);
     };
-    let second = exactly(alloc, input, more)?;
-    Ok(second.map(|second| Call::Compare { first, second }))
+    let (first, second) = both.split_at(n);
+    Ok(Some(Call::Compare { first, second }))
 }
 
 // The call of a mark.
-fn read_call(alloc: Global, input: &mut impl Read, mark: u8) -> io::Result<Option<Call>>
+fn read_call<'a>(
+    input: &mut impl Read,
+    room: &'a mut Room,
+    mark: u8,
+) -> io::Result<Option<Call<'a>>>
     ensures { IfOk result (λ read. IfSome read IsWithinLimits) }
 {
     match mark {
         b'F' => Ok(Some(Call::Fresh)),
-        b'S' => read_state(alloc, input),
-        b'L' => Ok(counted(alloc, input)?.map(Call::Load)),
-        b'Q' => read_query(alloc, input),
-        b'P' => Ok(counted(alloc, input)?.map(Call::Poll)),
+        b'S' => read_state(input, &mut room.bytes),
+        b'L' => Ok(counted(input, &mut room.bytes)?.map(Call::Load)),
+        b'Q' => read_query(input, &mut room.queues),
+        b'P' => Ok(counted(input, &mut room.bytes)?.map(Call::Poll)),
         b'W' => read_write(input),
-        b'T' => Ok(counted(alloc, input)?.map(Call::List)),
-        b'M' => read_comparison(alloc, input),
+        b'T' => Ok(counted(input, &mut room.bytes)?.map(Call::List)),
+        b'M' => read_comparison(input, &mut room.bytes),
         _ => Ok(None),
     }
 }
 
-// What stands next in the stream, or none where it does not go on as it must.
-pub fn read_item(alloc: Global, input: &mut impl Read) -> io::Result<Option<Item>>
+// What stands next in the stream, or none where it does not go on as it must. The bytes or queues of a call are read into the room.
+pub fn read_item<'a>(input: &mut impl Read, room: &'a mut Room) -> io::Result<Option<Item<'a>>>
     ensures { IfOk result (λ read. IfSome read HasCallWithinLimits) }
 {
     match octet(input)? {
         b'C' => Ok(Some(Item::Case)),
         b'E' => Ok(Some(Item::End)),
-        mark => Ok(read_call(alloc, input, mark)?.map(Item::Call)),
+        mark => Ok(read_call(input, room, mark)?.map(Item::Call)),
     }
 }
 

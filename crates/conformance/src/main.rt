@@ -4,7 +4,7 @@
 
 ghost use Rattle.case_input.specs.Limits.{IsWithinLimits};
 
-use case_input::{Call, Item};
+use case_input::{Call, Item, Room};
 use controller::Controller;
 use std::io::{self, BufReader};
 
@@ -24,7 +24,7 @@ fn made(bytes: &[u8], len: usize, mode: u8) -> Controller {
 fn answer(
     rt: &impl Print,
     state: &mut Controller,
-    call: Call,
+    call: Call<'_>,
     lent: &mut [u8; case_input::MOST_LENT],
 ) -> io::Result<()>
     requires { IsWithinLimits call }
@@ -35,28 +35,32 @@ fn answer(
             bytes,
             length,
             mode,
-        } => *state = made(&bytes, length, mode),
-        Call::Load(bytes) => calls::load(rt, state, &bytes)?,
+        } => *state = made(bytes, length, mode),
+        Call::Load(bytes) => calls::load(rt, state, bytes)?,
         Call::Query { scale, queues } => {
-            calls::look_up(rt, "query", state, |state| state.query(&queues, scale))?
+            calls::look_up(rt, "query", state, |state| state.query(queues, scale))?
         }
         Call::Poll(bytes) => {
-            calls::look_up(rt, "poll", state, |state| polling::poll(state, &bytes))?
+            calls::look_up(rt, "poll", state, |state| polling::poll(state, bytes))?
         }
         Call::Write { size, start } => calls::write(rt, state, &mut lent[..size], start)?,
-        Call::List(bytes) => calls::list(rt, &bytes, lent)?,
-        Call::Compare { first, second } => calls::compare(rt, &first, &second)?,
+        Call::List(bytes) => calls::list(rt, bytes, lent)?,
+        Call::Compare { first, second } => calls::compare(rt, first, second)?,
     }
     Ok(())
 }
 
 fn main(rt: HostRuntime) -> io::Result<()> {
     let mut input = BufReader::new(rt.alloc(), rt.reader())?;
+    let mut room = Room {
+        bytes: [0; case_input::MOST_BYTES],
+        queues: [0; case_input::MOST_QUEUES],
+    };
     let mut lent = [0u8; case_input::MOST_LENT];
     let mut state = Controller::fresh();
     let mut cases = 0u64;
     for _ in 0..u64::MAX {
-        match case_input::read_item(rt.alloc(), &mut input)? {
+        match case_input::read_item(&mut input, &mut room)? {
             Some(Item::Case) => {
                 println!(rt; "case {cases}")?;
                 cases = cases.wrapping_add(1);
