@@ -28,10 +28,10 @@ use Rattle.entry_search.specs.Search.{EntryImage, BoxRanges, RunsFit, box_alone,
 use Rattle.entry_search.proofs.Successors.{passes_fine}
 
 -- the ranges that meet an entry's image have its successors
-pub ranges_are : (certificate : Certificate) (e b : ℕ) (image : Ends) (ranges : Ranges) → EntryImage certificate.bytes.now e b image
+pub ranges_are : (certificate : Certificate) (e b : ℕ) (image : Ends) (over : List Bool) (ranges : Ranges) → EntryImage certificate.bytes.now e b image over
     → RangesOf certificate.bytes.now image.low image.high ranges → BoxRanges certificate.bytes.now e b ranges
 unfolding follows
-ranges_are certificate e b image ranges I R =
+ranges_are certificate e b image over ranges I R =
     let s = certificate.bytes.now in
     record {
       bounded = R.bounded;

@@ -1,10 +1,10 @@
 -- What judging finds out once of an entry under an arrival box, and the parts of judging that single functions answer for.
-use Rattle.std.specs.Prelude.{ℕ, ◌+◌, ◌*◌, ◌≤◌, ◌<◌, List, Bool, ◌≡◌, eqb, length, get_or}
+use Rattle.std.specs.Prelude.{ℕ, ◌+◌, ◌*◌, ◌≤◌, ◌<◌, List, Bool, false, ◌≡◌, eqb, length, get_or}
 use Rattle.certificate.specs.declared.Report.{Report}
 use Rattle.certificate.specs.Loops.{sum_to, loop_from}
 use Rattle.certificate.specs.Layout.{max_cells, links_of, boxes_of, cell_of}
 use Rattle.network.specs.Network.{entry_limit}
-use Rattle.grid.specs.Successors.{image_low, image_high}
+use Rattle.grid.specs.Successors.{image_low, image_high, image_over}
 use Rattle.grid.specs.Laws.{ImageOf}
 use Rattle.octets.specs.Tables.{Holds}
 use Rattle.images.specs.declared.ends.Ends.{Ends}
@@ -12,10 +12,12 @@ use Rattle.successors.specs.declared.ranges.Ranges.{Ranges}
 use Rattle.successors.specs.Ranges.{Bounded, in_ranges, how_many}
 use Rattle.judging.specs.EntryTests.{follows, successor_fault, box_round, accepted}
 
--- the image of entry e's cell under its signal and box b: its ends, and it is the smallest box (grid `ImageOf`)
-pub record EntryImage (s : List ℕ) (e b : ℕ) (ends : Ends) : Type 0 where
+-- the image of entry e's cell under its signal and box b: its ends, over says which links exceed cap where they are not cut, and it is the
+-- smallest box (grid `ImageOf`)
+pub record EntryImage (s : List ℕ) (e b : ℕ) (ends : Ends) (over : List Bool) : Type 0 where
   pub low_is : Holds (links_of s) (image_low s (entry_limit s e) b (cell_of s e)) ends.low
   pub high_is : Holds (links_of s) (image_high s (entry_limit s e) b (cell_of s e)) ends.high
+  pub over_is : (l : ℕ) → l < links_of s → get_or over l false ≡ image_over s (entry_limit s e) b (cell_of s e) l
   pub smallest : ImageOf s (entry_limit s e) b (cell_of s e)
 
 -- the successors of entry e under box b are the cells in the ranges

@@ -1,5 +1,5 @@
 // The successors of an entry under one arrival box, as ranges of intervals.
-ghost use Rattle.std.specs.Prelude.{◌≡◌, ℕ, ◌+◌, ◌*◌, ◌<◌, ◌≤◌, min, ltb, get_or};
+ghost use Rattle.std.specs.Prelude.{◌≡◌, ℕ, ◌+◌, ◌*◌, ◌<◌, ◌≤◌, min, false, ltb, get_or};
 ghost use Rattle.certificate.specs.Layout.{max_boxes, max_links, links_of, boxes_of};
 ghost use Rattle.certificate.specs.Loops.{any_to};
 ghost use Rattle.judging.specs.Overflow.{box_overflows};
@@ -13,43 +13,56 @@ use entry_setup::{Entry, Tables, amounts};
 use images::ends::{self, Ends};
 use successors::ranges::{self, Ranges};
 
-// The low or the high ends with the arrivals of a box, which stand at every second place from `from` on, at most cap: `ends` receives them.
-// The answer is whether some link's end, not cut at cap, exceeds cap, gathered in the same loop: `any` in a loop of its own reads all again.
+// The low or the high ends with the arrivals of a box, which stand at every second place from `from` on, at most cap: `ends` receives them,
+// and `over` of each link whether its end, not cut at cap, exceeds cap. The answer is whether some link's does, gathered in the same loop:
+// `any` in a loop of its own reads all again.
 fn ends_under(
     tables: &Tables<'_>,
     before: &[usize; limits::MAX_LINKS],
     from: usize,
     ends: &mut [usize; limits::MAX_LINKS],
+    over: &mut [bool; limits::MAX_LINKS],
 ) -> bool
     requires { (from + 2 * max_links ≤ max_boxes * arrival_row + 1) × ((l : ℕ) → l < links_of (bytes_of tables.now) → (get_or before.now l 0 ≤ end_bound) × (get_or tables.now.arrivals.now (from + 2 * l) 0 ≤ end_bound)) }
-    ensures { ((l : ℕ) → l < links_of (bytes_of tables.now) → get_or ends.new l 0 ≡ min (get_or tables.now.caps.now l 0) (get_or before.now l 0 + get_or tables.now.arrivals.now (from + 2 * l) 0)) × (result ≡ any_to (links_of (bytes_of tables.now)) (λ l. ltb (get_or tables.now.caps.now l 0) (get_or before.now l 0 + get_or tables.now.arrivals.now (from + 2 * l) 0))) }
+    ensures { ((l : ℕ) → l < links_of (bytes_of tables.now) → get_or ends.new l 0 ≡ min (get_or tables.now.caps.now l 0) (get_or before.now l 0 + get_or tables.now.arrivals.now (from + 2 * l) 0)) × ((l : ℕ) → l < links_of (bytes_of tables.now) → get_or over.new l false ≡ ltb (get_or tables.now.caps.now l 0) (get_or before.now l 0 + get_or tables.now.arrivals.now (from + 2 * l) 0)) × (result ≡ any_to (links_of (bytes_of tables.now)) (λ l. get_or over.new l false)) }
 {
     let mut any = false;
     for l in 0..tables.certificate.layout.links {
         let arrivals = tables.arrivals[from + 2 * l];
         ends[l] = ends::end_of(tables.caps[l], before[l], arrivals);
-        any |= ends::exceeds(tables.caps[l], before[l], arrivals);
+        let exceeds = ends::exceeds(tables.caps[l], before[l], arrivals);
+        over[l] = exceeds;
+        any |= exceeds;
     }
     any
 }
 
-// The image of an entry's cell under its signal and box b: the smallest closed box that holds all exact next queues. `ends` has its ends
-// before arrivals, `image` receives them. The answer is whether some link's next queue may exceed cap where it is not cut, by the high ends.
-fn image_of(entry: &Entry<'_>, ends: &Ends, b: usize, image: &mut Ends) -> bool
+// The image of an entry's cell under its signal and box b: the smallest closed box that holds all exact next queues, and which of them
+// exceed cap where they are not cut. `ends` has its ends before arrivals, `image` receives them, and `over` what the high ends say, which
+// come last. The answer is whether some link exceeds.
+fn image_of(
+    entry: &Entry<'_>,
+    ends: &Ends,
+    b: usize,
+    image: &mut Ends,
+    over: &mut [bool; limits::MAX_LINKS],
+) -> bool
     requires { EntryEnds (bytes_of entry.now.tables.now) entry.now.number ends.now × (b < boxes_of (bytes_of entry.now.tables.now)) }
-    ensures { EntryImage (bytes_of entry.now.tables.now) entry.now.number b image.new × (result ≡ box_overflows (bytes_of entry.now.tables.now) entry.now.number b) }
+    ensures { EntryImage (bytes_of entry.now.tables.now) entry.now.number b image.new over.new × (result ≡ box_overflows (bytes_of entry.now.tables.now) entry.now.number b) }
 {
     ends_under(
         entry.tables,
         &ends.low,
         amounts::ARRIVAL_ROW * b,
         &mut image.low,
+        over,
     );
     ends_under(
         entry.tables,
         &ends.high,
         amounts::ARRIVAL_ROW * b + 1,
         &mut image.high,
+        over,
     )
 }
 
@@ -64,7 +77,8 @@ pub fn box_ranges(entry: &Entry<'_>, ends: &Ends, b: usize, ranges: &mut Ranges)
         low: [0; limits::MAX_LINKS],
         high: [0; limits::MAX_LINKS],
     };
-    let any = image_of(entry, ends, b, &mut image);
+    let mut over = [false; limits::MAX_LINKS];
+    let any = image_of(entry, ends, b, &mut image, &mut over);
     ranges::ranges_of(
         tables.certificate,
         tables.edges,

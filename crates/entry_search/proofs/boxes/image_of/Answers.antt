@@ -19,6 +19,6 @@ ends_under-requires-2 c =
 
 pub returns : goal.returns
 returns c =
-    let entry = c.args.entry.now in
     let p = c.requires in
-    (image_is entry _ _ _ p.0 p.1 c.ends_under.ensures.0 c.ends_under-2.ensures.0, box_over entry _ _ p.0 p.1 c.ends_under-2.ensures.1)
+    let image = image_is c.args.entry.now _ _ _ _ p.0 p.1 c.ends_under.ensures.0 c.ends_under-2.ensures.0 c.ends_under-2.ensures.1 in
+    (image, box_over _ _ _ _ _ image c.ends_under-2.ensures.2)
