@@ -1,13 +1,14 @@
 -- Text written at a place of a buffer. Assumes nothing.
-use mathlib.Core.Path.{◌≡◌}
-use mathlib.Core.List.{List, [], ◌∷◌, ◌++◌, append_assoc}
+use mathlib.Core.Path.{◌≡◌, ◌∙◌}
+use mathlib.Core.List.{List, [], ◌∷◌, ◌++◌, append_assoc, append-nil}
 use Prim.Native.Nat.{ℕ, suc, ◌+◌, ◌≤◌, ◌<◌}
 use native.Mathlib.Omega.{arith}
-use native.Mathlib.Nat.{add-zero, add_assoc}
+use native.Mathlib.Nat.{add-zero, zero-add, add_assoc}
 use native.Mathlib.Numerals.{add-one}
 use borrow.Rule.Slice.PartMut.{put_mid}
-use lib.ListN.{length, set, take, drop, length-append, length-drop, take-append-drop}
-use lib.Seq.{append_snoc, length-take-le, take_at, drop_at, drop-drop, take-set-le, set_split}
+use lib.ListN.{length, set, get_or, take, drop, length-append, length-drop, take-append-drop, drop_of_length-le}
+use lib.Seq.{append_snoc, length-take-le, take_all, take_at, drop_at, drop-drop, take-set-le, set_split}
+use Rattle.std.proofs.lemmas.List.Edits.{paste_more}
 use Rattle.text.specs.TextPut.{written}
 
 -- nothing written leaves the buffer as it was
@@ -56,3 +57,14 @@ written_back b at t v h =
 pub written_part : (b : List ℕ) (at : ℕ) {k : ℕ} (t : List ℕ) {u : List ℕ} → u ≡ t → k ≡ length t → put_mid at k b u ≡ written b at t
 unfolding written
 written_part b at t e k = rw (e, k, drop-drop)
+
+-- a loop that copies s over d, byte by byte: t is what stands there after n turns
+pub record Copied (s d : List ℕ) (n : ℕ) (t : List ℕ) : Type 0 where
+  pub bytes : t ≡ take n s ++ drop n d
+
+pub copied_more : {s d t : List ℕ} (n : ℕ) → Copied s d n t → n < length s → n < length d → Copied s d (n + 1) (set t n (get_or s n 0))
+copied_more {s} {d} n h left within = record { bytes = rw h.bytes (simp zero-add at (paste_more d 0 s n 0 (omega arith) left)) }
+
+-- all of d is overwritten
+pub copied_all : {s d t : List ℕ} (n : ℕ) → Copied s d n t → n ≡ length s → length d ≤ n → t ≡ s
+copied_all {s} {d} n h whole over = h.bytes ∙ rw (take_all n s (omega arith), drop_of_length-le d {i = n} over, append-nil)

@@ -18,7 +18,9 @@ impl Writer<'_> {
         ensures { Writes self.old word.now self.new }
     {
         let end = self.at + word.len();
-        self.buffer[self.at..end].copy_from_slice(word);
+        for (i, byte) in self.buffer[self.at..end].iter_mut().enumerate() {
+            *byte = word[i];
+        }
         self.at = end;
     }
 
