@@ -9,7 +9,7 @@ use Rattle.reading.proofs.Whole.{reads}
 use Rattle.entry_setup.specs.Tables.{bound_for, IsEntry}
 use Rattle.rank_tables.proofs.Ranking.{table_fits}
 
-row_fits : (m modes cells : ℕ) → m < modes → modes ≤ 8 → cells ≤ 4096 → m * cells + cells ≤ 32768
+pub row_fits : (m modes cells : ℕ) → m < modes → modes ≤ 8 → cells ≤ 4096 → m * cells + cells ≤ 32768
 row_fits m modes cells h few most = omega (arith, rw suc-mul at (table_fits (suc m) cells (omega arith) most))
 
 module _ (w : Certificate) (e next : ℕ) (exists : e < entries_of w.bytes.now) (next_is : next ≡ next_mode_of w.bytes.now e) where

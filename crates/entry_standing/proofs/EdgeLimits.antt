@@ -77,7 +77,7 @@ same_test false false = refl
 
 -- the tests 12 and 13, by what the code finds of the edges and of the rank
 module _ (s : List ℕ) (e n : ℕ) {safe goal : Bool} {rank : ℕ} (safe-is : safe ≡ is_safe s e) (goal-is : goal ≡ is_goal s e) (rank-is : rank ≡ rank_of s e) where
-  same_ranked : beq (eqb rank 0) goal ≡ is_ranked s e
+  pub same_ranked : beq (eqb rank 0) goal ≡ is_ranked s e
   unfolding is_ranked
   same_ranked = rw (rank-is, goal-is) (same_test (eqb (rank_of s e) 0) (is_goal s e))
 

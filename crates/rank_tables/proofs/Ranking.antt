@@ -32,7 +32,7 @@ table_fits modes cells few most = omega (arith, mul-le-mul_right cells few)
 
 -- a table of rows of so many cells: slot d of row m, one more slot of that row, and all slots
 module _ (s : List ℕ) (cells : ℕ) (cells-are : cells ≡ cells_of s) where
-  slot_is : (m d : ℕ) → d < cells → rank_entry s (m * cells + d) ≡ rank_at s d m
+  pub slot_is : (m d : ℕ) → d < cells → rank_entry s (m * cells + d) ≡ rank_at s d m
   unfolding rank_entry
   slot_is m d inside =
       let cell : (m * cells + d) % cells ≡ d = mul-add-mod_self_right m cells d ∙ mod-eq_of_lt inside in

@@ -33,11 +33,11 @@ and_right true b e = e
 and_right false b e = refl
 
 module _ (s : List ℕ) (ranges : Ranges) where
-  too_low : (c l : ℕ) → l < links_of s → interval_in s c l < get_or ranges.first l 0 → in_ranges s ranges c ≡ false
+  pub too_low : (c l : ℕ) → l < links_of s → interval_in s c l < get_or ranges.first l 0 → in_ranges s ranges c ≡ false
   unfolding in_ranges
   too_low c l lt h = every_fails (links_of s) _ l lt (and_left _ _ (lt-leb _ _ h))
 
-  too_high : (c l : ℕ) → l < links_of s → get_or ranges.last l 0 < interval_in s c l → in_ranges s ranges c ≡ false
+  pub too_high : (c l : ℕ) → l < links_of s → get_or ranges.last l 0 < interval_in s c l → in_ranges s ranges c ≡ false
   unfolding in_ranges
   too_high c l lt h = every_fails (links_of s) _ l lt (and_right (leb (get_or ranges.first l 0) (interval_in s c l)) _ (lt-leb _ _ h))
 
