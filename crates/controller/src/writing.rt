@@ -21,7 +21,9 @@ impl Controller {
         if start > buffer.len() || buffer.len() - start < n {
             return Err(refuse(Refusal::NoRoom, 0));
         }
-        buffer[start..start + n].copy_from_slice(certificate.bytes);
+        for (i, byte) in buffer[start..start + n].iter_mut().enumerate() {
+            *byte = certificate.bytes[i];
+        }
         Ok(n)
     }
 

@@ -1,8 +1,8 @@
--- `controller::Controller::write_stored` meets its contract.
 use Rattle.std.proofs.Common.{rules, ◌≡◌, ◌≤◌, ◌+◌, arith, sym, ap, ◌∙◌, length, List, ℕ}
 use Rattle.std.proofs.lemmas.Result.{err_from_is_err_and}
 use borrow.Rule.Slice.PartMut.{Post-is}
 use Rattle.certificate.specs.Layout.{max_length}
+use Rattle.controller.proofs.Copying.{copied_more, copied_all}
 use Rattle.controller.proofs.Held.{held, not_held}
 use Rattle.controller.proofs.Writings.{wrote, too_short, none_held}
 use Rattle.controller.proofs.Controller.write_stored.Goals as goal
@@ -31,6 +31,9 @@ returns-then-start-buffer-clause-wrote c =
     let w = too_short a.self.now.bytes a.self.now.len a.buffer.now a.start ok.0 short in
     (c.refuse.ensures ∙ sym w.0, sym w.1)
 
+pub loop-i-preserved : goal.loop-i-preserved
+loop-i-preserved c = copied_more c.loop-i.i c.loop-i.invariant (omega arith) (omega arith)
+
 pub returns-clause-wrote : goal.returns-clause-wrote
 returns-clause-wrote c =
     let a = c.args in
@@ -39,4 +42,5 @@ returns-clause-wrote c =
     let ok = held a.self.now size c.in_ok-certificate.ensures.told_is in
     let n : length c.in_ok-certificate.certificate.bytes.now ≡ a.self.now.len = ap (λ (b : List ℕ). length b) bytes ∙ ok.1 in
     let w = wrote a.self.now.bytes a.self.now.len a.buffer.now a.start ok.0 (omega (arith, c.if-start-buffer.false, c.if-buffer-start.false)) in
-    (rw n (sym w.0), rw (n, Post-is a.start (a.start + a.self.now.len) a.buffer.now (omega arith), c.copy_from_slice.ensures.after, bytes) (sym w.1))
+    let copied = copied_all c.loop-i.i c.loop-i.invariant (omega arith) (omega arith) in
+    (rw n (sym w.0), rw (n, Post-is a.start (a.start + a.self.now.len) a.buffer.now (omega arith), copied, bytes) (sym w.1))
