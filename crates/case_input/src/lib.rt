@@ -25,7 +25,7 @@ pub const MOST_QUEUES: usize = 64;
 pub const MOST_LENT: usize = 49152;
 
 // What a reader lends: the bytes and queues of a call lie in it.
-#[derive(Debug, Drop)]
+#[derive(Clone, Copy)]
 pub struct Room {
     pub bytes: [u8; MOST_BYTES],
     pub queues: [u32; MOST_QUEUES],
