@@ -24,7 +24,7 @@ pub const MOST_QUEUES: usize = 64;
 
 pub const MOST_LENT: usize = 49152;
 
-// What a reader lends: the bytes and queues of a call lie in it.
+// The room that a caller lends: the bytes and queues of the call that is read lie in it.
 #[derive(Clone, Copy)]
 pub struct Room {
     pub bytes: [u8; MOST_BYTES],
