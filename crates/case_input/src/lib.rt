@@ -24,7 +24,7 @@ pub const MOST_QUEUES: usize = 64;
 
 pub const MOST_LENT: usize = 49152;
 
-// What a reader lends: the bytes and queues of a call lie in it.
+// The room that a caller lends: the bytes and queues of the call that is read lie in it.
 #[derive(Clone, Copy)]
 pub struct Room {
     pub bytes: [u8; MOST_BYTES],
@@ -90,17 +90,11 @@ fn place(input: &mut impl Read) -> io::Result<usize> {
     Ok(u64::from_be_bytes(octets(input)?) as usize)
 }
 
-// The next n bytes, where the input has them all.
-fn exactly<'a, R: Read>(
-    input: &mut R,
-    room: &'a mut [u8; MOST_BYTES],
-    n: usize,
-) -> io::Result<Option<&'a [u8]>>
-    requires { n ≤ MOST_BYTES }
-    ensures { IfOk result (λ read. IfSome read (λ bytes.
-        (length bytes.now ≡ n) × Consumes (R.remaining input.old) (R.remaining input.new) bytes.now)) }
+// The next bytes, as many as there is room for, where the input has them all.
+fn exactly<'a, R: Read>(input: &mut R, bytes: &'a mut [u8]) -> io::Result<Option<&'a [u8]>>
+    ensures { IfOk result (λ read. IfSome read (λ filled.
+        (length filled.now ≡ length bytes.old) × Consumes (R.remaining input.old) (R.remaining input.new) filled.now)) }
 {
-    let bytes = &mut room[..n];
     match input.read_exact(bytes) {
         Ok(()) => Ok(Some(bytes)),
         Err(e) if e.kind() == ErrorKind::UnexpectedEof => Ok(None),
@@ -119,7 +113,7 @@ fn counted<'a>(
     if n > MOST_BYTES {
         return Ok(None);
     }
-    exactly(input, room, n)
+    exactly(input, &mut room[..n])
 }
 
 // S: bytes, a length, a mode.
@@ -179,7 +173,7 @@ fn read_comparison<'a>(
     if n > MOST_BYTES || more > MOST_BYTES - n {
         return Ok(None);
     }
-    let Some(both) = exactly(input, room, n + more)? else {
+    let Some(both) = exactly(input, &mut room[..n + more])? else {
         return Ok(None);
     };
     let (first, second) = both.split_at(n);
